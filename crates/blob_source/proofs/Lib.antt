@@ -1,0 +1,4 @@
+pub mod Puts
+pub mod AheadLemmas
+pub mod LineFeeds
+pub mod LineLemmas

@@ -1,0 +1,5 @@
+pub mod Fields
+pub mod Line
+pub mod Reading
+pub mod Print
+pub mod Word
