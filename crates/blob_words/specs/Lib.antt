@@ -1,3 +1,4 @@
 pub mod Limits
 pub mod BlobName
 pub mod Origin
+pub mod FileName

@@ -3,6 +3,7 @@
 
 pub mod counted;
 pub mod fault;
+pub mod file_name;
 pub mod limit_fault;
 pub mod limits;
 pub mod list;
@@ -15,6 +16,7 @@ pub mod tally;
 
 pub use counted::Counted;
 pub use fault::{Failed, NameFault, NoMemory};
+pub use file_name::FileName;
 pub use limit_fault::{Field, LimitFault};
 pub use limits::Limits;
 pub use list::{ItemList, Octets, Octets64, PieceList};

@@ -21,7 +21,7 @@ use Rattle.session_script.specs.declared.line_fault.LineFault.{LineFault}
 use Rattle.session_script.specs.declared.line_fault.LineFault.TheVariants.{Unbuilt, Memory}
 use Rattle.session_script.specs.declared.word.Word.{Word}
 use Rattle.session_script.specs.declared.word.Word.TheVariants as words
-use Rattle.session_script.proofs.NoSpace.{split-line_of}
+use Rattle.session_script.proofs.Visible.{split-line_of}
 use Rattle.session_script.proofs.Splits.{joined-split}
 
 pub same_rest : (x y : List ℕ) (xs ys : List (List ℕ)) → x ∷ xs ≡ y ∷ ys → xs ≡ ys

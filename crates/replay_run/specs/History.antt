@@ -1,0 +1,34 @@
+-- What was heard and what was answered, one after the other. Own.
+use Rattle.std.specs.Prelude.{Bool, true, false, List, [], ◌∷◌}
+use Rattle.session_script.specs.declared.event.Event.{Event}
+use Rattle.session_script.specs.declared.event.Event.TheVariants as events
+use Rattle.replay_run.specs.declared.answer.Answer.{Answer}
+use Rattle.replay_run.specs.declared.group.Group.{Group}
+
+-- what came after the line of the limits, newest last: nothing, a line with its first answer, or a further answer of that line
+pub data History : Type 0 where
+  start : History
+  heard : History → Event → Answer → History
+  said : History → Answer → History
+
+-- the history after further answers of its last line
+abbrev pub said_all : History → List Answer → History
+said_all h [] = h
+said_all h (answer ∷ answers) = said_all (said h answer) answers
+
+-- the history after a line with its answers; a line with none is no line
+abbrev pub after : History → Event → List Answer → History
+after h event [] = h
+after h event (answer ∷ answers) = said_all (heard h event answer) answers
+
+-- the history after these groups
+abbrev pub history_from : History → List Group → History
+history_from h [] = h
+history_from h (group ∷ groups) = history_from (after h group.event group.answers) groups
+
+-- whether the `end` line was heard
+abbrev pub has_ended : History → Bool
+has_ended start = false
+has_ended (heard h events.Finish answer) = true
+has_ended (heard h event answer) = has_ended h
+has_ended (said h answer) = has_ended h

@@ -1,0 +1,33 @@
+ghost use Rattle.std.specs.Prelude.{◌≡◌};
+ghost use Rattle.replay_run.specs.Ending.{code_of};
+
+/// How a replay ended.
+#[derive(Clone, Copy, Debug, PartialEq, Eq)]
+pub enum Ending {
+    /// The `end` line was read and its group written.
+    Finished,
+    /// The line of this number, from 1, was refused, and that was written.
+    Refused(u32),
+    /// There was no memory.
+    NoMemory,
+    /// The source failed.
+    SourceFailed,
+    /// The sink failed.
+    SinkFailed,
+    /// The source ended at a line's end.
+    Stopped,
+}
+
+/// The exit status of a replay.
+pub fn status_of(ending: Ending) -> u8
+    ensures { result ≡ code_of ending }
+{
+    match ending {
+        Ending::Finished => 0,
+        Ending::Refused(_) => 2,
+        Ending::NoMemory => 3,
+        Ending::SourceFailed => 4,
+        Ending::SinkFailed => 5,
+        Ending::Stopped => 6,
+    }
+}

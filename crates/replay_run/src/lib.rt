@@ -1,0 +1,13 @@
+//! A session replayed against a blob store: bytes in, a transcript out.
+#![tactic(auto)]
+
+pub mod answer;
+pub mod ending;
+pub mod group;
+pub mod print;
+pub mod replay;
+pub mod rows;
+pub mod store;
+pub mod turn;
+
+pub use crate::replay::run;

@@ -1,0 +1,172 @@
+ghost use Rattle.std.specs.Prelude.{◌≡◌, ◌≤◌, ◌^◌, ℕ, List, [], ◌∷◌, ◌++◌, Option, None, Ok, Err, false, length, IfOk, IfErr};
+ghost use Rattle.std.specs.Io.KnownBytes.{Appends, Consumes, prepend_known};
+ghost use Rattle.blob_words.specs.declared.limits.Limits.{Limits as SomeLimits};
+ghost use Rattle.blob_source.specs.Lines.{has_line_feed};
+ghost use Rattle.blob_source.specs.declared.line_step.LineStep.TheVariants as steps;
+ghost use Rattle.replay_run.specs.History.{History};
+ghost use Rattle.replay_run.specs.Own.{own};
+ghost use Rattle.session_script.specs.declared.event.Event.TheVariants as events;
+ghost use Rattle.session_script.specs.Line.{line_of};
+ghost use Rattle.blob_source.specs.Faults.{Rose};
+ghost use Rattle.replay_run.specs.Reads.{IsLineOf, limits_of};
+ghost use Rattle.replay_run.specs.Stands.{Rests};
+ghost use Rattle.replay_run.specs.Turns.{EndsAt, EndsPast, Turned, TurnCause};
+ghost use Rattle.replay_run.specs.Run.{HasCause};
+
+use crate::ending::Ending;
+use crate::replay::put::{put_group, refuse};
+use crate::store::Store;
+use crate::store::fault::ApplyFault;
+use crate::turn::Turn;
+use blob_source::{LineReader, LineStep, Sink, Source};
+use blob_words::{Limits, Octets};
+use session_script::{Event, LineFault, read_line};
+use std::alloc::Global;
+
+/// The greatest number of lines of a session.
+pub const MAX_LINES: u32 = 1 << 20;
+
+/// Reads, applies and answers a line.
+fn answer_line<K: Sink>(
+    alloc: Global,
+    number: u32,
+    line: &[u8],
+    store: &mut Store,
+    text: &mut Octets,
+    out: &mut K,
+) -> Turn
+    ensures turned { (l : SomeLimits) (h : History) (unread unread' : Option (List ℕ)) → Rests l store.old h → length line.now ≤ 2 ^ 20 → has_line_feed line.now ≡ false
+        → Consumes unread unread' (line.now ++ 10 ∷ []) → Turned l h number unread unread' (K.held out.old) (K.held out.new) store.new result }
+    ensures cause { (source : ℕ) → TurnCause result source source (K.faults out.old) (K.faults out.new) }
+    ensures later { K.faults out.old ≤ K.faults out.new }
+{
+    let event = match read_line(alloc, line) {
+        Ok(event) => event,
+        Err(LineFault::Unbuilt) => return Turn::Over(refuse(number, text, out)),
+        Err(LineFault::Memory) => return Turn::Over(Ending::NoMemory),
+    };
+    let group = match store.apply(alloc, event) {
+        Ok(group) => group,
+        Err(ApplyFault::Unbuilt) => return Turn::Over(refuse(number, text, out)),
+        Err(ApplyFault::NoMemory) => return Turn::Over(Ending::NoMemory),
+    };
+    match put_group(&group, text, out) {
+        Ok(()) => {}
+        Err(ending) => return Turn::Over(ending),
+    }
+    if store.has_ended() {
+        return Turn::Over(Ending::Finished);
+    }
+    Turn::More
+}
+
+/// Takes the next line of the session.
+pub fn take_turn<S: Source, K: Sink>(
+    alloc: Global,
+    number: u32,
+    reader: &mut LineReader,
+    store: &mut Store,
+    text: &mut Octets,
+    session: &mut S,
+    out: &mut K,
+) -> Turn
+    ensures turned { (l : SomeLimits) (h : History) → Rests l store.old h → reader.old.last ≡ steps.Line
+        → Turned l h number (prepend_known reader.old.ahead (S.left session.old)) (prepend_known reader.new.ahead (S.left session.new)) (K.held out.old) (K.held out.new) store.new result }
+    ensures ready { result ≡ Turn.More → reader.new.last ≡ steps.Line }
+    ensures cause { reader.old.last ≡ steps.Line → TurnCause result (S.faults session.old) (S.faults session.new) (K.faults out.old) (K.faults out.new) }
+    ensures source_later { S.faults session.old ≤ S.faults session.new }
+    ensures sink_later { K.faults out.old ≤ K.faults out.new }
+{
+    match reader.next_line(session) {
+        LineStep::Line => answer_line(alloc, number, reader.line(), store, text, out),
+        LineStep::End => Turn::Over(Ending::Stopped),
+        LineStep::Unended => Turn::Over(refuse(number, text, out)),
+        LineStep::TooLong => Turn::Over(refuse(number, text, out)),
+        LineStep::ReadFault => Turn::Over(Ending::SourceFailed),
+    }
+}
+
+/// The limits, where the event is their line.
+fn limits_of(event: Event) -> Option<Limits>
+    ensures { result ≡ limits_of event }
+{
+    match event {
+        Event::Limits(limits) => Some(limits),
+        Event::Spawn { .. } => None,
+        Event::Build { .. } => None,
+        Event::Drop { .. } => None,
+        Event::Read { .. } => None,
+        Event::Step { .. } => None,
+        Event::Finish => None,
+    }
+}
+
+/// Reads the limits from the first line.
+fn read_limits<K: Sink>(
+    alloc: Global,
+    line: &[u8],
+    text: &mut Octets,
+    out: &mut K,
+) -> Result<Limits, Ending>
+    ensures limits { length line.now ≤ 2 ^ 20 → IfOk result (λ limits. IsLineOf (events.Limits limits) × (line.now ≡ line_of (events.Limits limits)) × (out.new ≡ out.old)) }
+    ensures refused { (unread unread' : Option (List ℕ)) → length line.now ≤ 2 ^ 20 → has_line_feed line.now ≡ false → Consumes unread unread' (line.now ++ 10 ∷ [])
+        → IfErr result (EndsAt (λ event. limits_of event ≡ None) 1 unread (K.held out.old) (K.held out.new)) }
+    ensures cause { (source : ℕ) → IfErr result (λ ending. HasCause ending source source (K.faults out.old) (K.faults out.new)) }
+    ensures later { K.faults out.old ≤ K.faults out.new }
+{
+    let event = match read_line(alloc, line) {
+        Ok(event) => event,
+        Err(LineFault::Unbuilt) => return Err(refuse(1, text, out)),
+        Err(LineFault::Memory) => return Err(Ending::NoMemory),
+    };
+    match limits_of(event) {
+        Some(limits) => Ok(limits),
+        None => Err(refuse(1, text, out)),
+    }
+}
+
+/// Takes the first line of the session.
+pub fn take_limits<S: Source, K: Sink>(
+    alloc: Global,
+    reader: &mut LineReader,
+    text: &mut Octets,
+    session: &mut S,
+    out: &mut K,
+) -> Result<Limits, Ending>
+    ensures limits { reader.old.last ≡ steps.Line → IfOk result (λ limits. IsLineOf (events.Limits limits) × (out.new ≡ out.old) × (reader.new.last ≡ steps.Line)
+        × Consumes (prepend_known reader.old.ahead (S.left session.old)) (prepend_known reader.new.ahead (S.left session.new)) (line_of (events.Limits limits) ++ 10 ∷ [])) }
+    ensures refused { reader.old.last ≡ steps.Line
+        → IfErr result (EndsAt (λ event. limits_of event ≡ None) 1 (prepend_known reader.old.ahead (S.left session.old)) (K.held out.old) (K.held out.new)) }
+    ensures cause { reader.old.last ≡ steps.Line → IfErr result (λ ending. HasCause ending (S.faults session.old) (S.faults session.new) (K.faults out.old) (K.faults out.new)) }
+    ensures source_later { S.faults session.old ≤ S.faults session.new }
+    ensures sink_later { K.faults out.old ≤ K.faults out.new }
+{
+    match reader.next_line(session) {
+        LineStep::Line => read_limits(alloc, reader.line(), text, out),
+        LineStep::End => Err(Ending::Stopped),
+        LineStep::Unended => Err(refuse(1, text, out)),
+        LineStep::TooLong => Err(refuse(1, text, out)),
+        LineStep::ReadFault => Err(Ending::SourceFailed),
+    }
+}
+
+/// Looks behind the greatest number of lines.
+pub fn past_lines<S: Source, K: Sink>(
+    reader: &mut LineReader,
+    text: &mut Octets,
+    session: &mut S,
+    out: &mut K,
+) -> Ending
+    ensures ends { reader.old.last ≡ steps.Line → EndsPast (prepend_known reader.old.ahead (S.left session.old)) (K.held out.old) (K.held out.new) result }
+    ensures cause { reader.old.last ≡ steps.Line → HasCause result (S.faults session.old) (S.faults session.new) (K.faults out.old) (K.faults out.new) }
+    ensures source_later { S.faults session.old ≤ S.faults session.new }
+    ensures sink_later { K.faults out.old ≤ K.faults out.new }
+{
+    match reader.next_line(session) {
+        LineStep::Line => refuse(MAX_LINES + 1, text, out),
+        LineStep::End => Ending::Stopped,
+        LineStep::Unended => refuse(MAX_LINES + 1, text, out),
+        LineStep::TooLong => refuse(MAX_LINES + 1, text, out),
+        LineStep::ReadFault => Ending::SourceFailed,
+    }
+}

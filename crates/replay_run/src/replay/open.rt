@@ -1,0 +1,58 @@
+ghost use Rattle.std.specs.Prelude.{◌≡◌, ◌≤◌, IfOk, MatchResult, Err};
+ghost use Rattle.std.specs.Io.KnownBytes.{Appends};
+ghost use Rattle.blob_source.specs.Faults.{Rose};
+ghost use Rattle.replay_run.specs.History.{start};
+ghost use Rattle.replay_run.specs.Legal.{opening};
+ghost use Rattle.replay_run.specs.Puts.{IsCut};
+ghost use Rattle.replay_run.specs.Text.{group_text};
+ghost use Rattle.replay_run.specs.Stands.{Rests};
+
+use crate::answer::{Answer, Answers};
+use crate::ending::Ending;
+use crate::group::Group;
+use crate::replay::put::put_group;
+use crate::store::Store;
+use blob_source::Sink;
+use blob_words::{Limits, NoMemory, Octets, Tally};
+use session_script::Event;
+use std::alloc::Global;
+
+/// The group of the line of the limits.
+fn opening(alloc: Global, limits: Limits) -> Result<Group, NoMemory>
+    ensures { IfOk result (λ group. group ≡ opening limits) }
+{
+    let mut answers = Answers::new(alloc);
+    answers.push(Answer::Good)?;
+    Ok(Group {
+        event: Event::Limits(limits),
+        answers,
+        tally: Tally {
+            pieces: 0,
+            memory: 0,
+            files: 0,
+            disk: 0,
+        },
+    })
+}
+
+/// Opens the session of these limits: makes its store and writes the group of their line.
+pub fn open_with<K: Sink>(
+    alloc: Global,
+    limits: Limits,
+    text: &mut Octets,
+    out: &mut K,
+) -> Result<Store, Ending>
+    ensures opened { MatchResult result
+        (λ store. Rests limits store start × Appends (K.held out.old) (K.held out.new) (group_text (opening limits)))
+        (IsCut (K.held out.old) (K.held out.new)) }
+    ensures cause { result ≡ Err Ending.SinkFailed → Rose (K.faults out.old) (K.faults out.new) }
+    ensures later { K.faults out.old ≤ K.faults out.new }
+{
+    let Ok(group) = opening(alloc, limits) else {
+        return Err(Ending::NoMemory);
+    };
+    match put_group(&group, text, out) {
+        Ok(()) => Ok(Store::new(alloc, limits)),
+        Err(ending) => Err(ending),
+    }
+}

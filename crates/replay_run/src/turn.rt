@@ -1,0 +1,10 @@
+use crate::ending::Ending;
+
+/// What one line of a session led to.
+#[derive(Clone, Copy, Debug, PartialEq, Eq)]
+pub enum Turn {
+    /// The session goes on.
+    More,
+    /// It is over.
+    Over(Ending),
+}

@@ -1,0 +1,13 @@
+//! Tests of the top call over sources and sinks in memory.
+#![tactic(auto)]
+
+#[cfg(test)]
+mod answers;
+#[cfg(test)]
+mod faults;
+#[cfg(test)]
+mod replaying;
+#[cfg(test)]
+mod row;
+#[cfg(test)]
+mod sessions;
