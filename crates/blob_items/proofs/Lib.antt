@@ -1,0 +1,4 @@
+pub mod StartLemmas
+pub mod CellLemmas
+pub mod FindLemmas
+pub mod CutLemmas

@@ -1,0 +1,9 @@
+//! Views on items, and the lists of views of which a blob is made.
+#![tactic(auto)]
+
+pub mod starts;
+pub mod view;
+pub mod view_list;
+
+pub use view::View;
+pub use view_list::ViewList;

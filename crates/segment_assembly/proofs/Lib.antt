@@ -1,0 +1,4 @@
+pub mod SlotLemmas
+pub mod PieceLemmas
+pub mod ReadyLemmas
+pub mod FaultLemmas

@@ -1,0 +1,10 @@
+//! The segments of a build, which come in any order, and the pieces that they make.
+#![tactic(auto)]
+
+pub mod assembly;
+pub mod copies;
+pub mod pieces;
+pub mod segment_fault;
+
+pub use assembly::Assembly;
+pub use segment_fault::SegmentFault;
