@@ -3,12 +3,12 @@
 
 use blob_source::{ReadSource, WriteSink};
 use replay_run::run;
-use std::env;
-use std::io;
 use std::process::ExitCode;
+use std::{env, io};
 
 // The status of other words, and that of want of memory.
 const OTHER_WORDS: u8 = 1;
+
 const NO_MEMORY: u8 = 3;
 
 /// The words behind the program's name.

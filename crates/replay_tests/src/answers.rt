@@ -5,6 +5,7 @@ use std::process::Abort;
 use std::test::Fail;
 
 const LIMITS: &str = "limits 64 64 32 16 4 4 8\n";
+
 const OPENED: &str = "> limits 64 64 32 16 4 4 8\nok\n= 0 0 0 0\n";
 
 // Replays the limits and these lines.

@@ -18,7 +18,9 @@ fn each_read_fails_in_turn(rt: HostRuntime) -> Result<(), Fail> {
         let outcome = replayed(heap, session.as_slice(), 1, Some(number), None)?;
         assert_eq!(rt; outcome.status, 4);
         assert_eq!(rt; outcome.sink.bytes(), whole.as_slice());
-        if *byte == b'\n' && let Some(lined) = lines.next() {
+        if *byte == b'\n'
+            && let Some(lined) = lines.next()
+        {
             whole.extend_from_slice(lined.group.as_bytes())?;
         }
     }

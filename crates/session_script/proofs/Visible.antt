@@ -1,8 +1,8 @@
 -- The bytes of an event's words are visible: none is a space or a line feed.
-use Rattle.std.proofs.Common.{◌≡◌, ℕ, ◌<◌, ◌≤◌, ◌^◌, true, false, map, List, [], ◌∷◌, Option, Some, None, IfSome, not, decimal, codes, eqb, refl, sym, ◌∙◌, ap, lit≤, arith}
-use Rattle.std.specs.Prelude.{Bool, nat_le, ◌==◌, ◌||◌, ◌++◌, All}
+use Rattle.std.proofs.Common.{◌≡◌, ℕ, ◌<◌, ◌≤◌, ◌^◌, true, false, map, List, [], ◌∷◌, Option, Some, None, IfSome, decimal, codes, eqb, refl, ◌∙◌, lit≤, arith}
+use Rattle.std.specs.Prelude.{Bool, nat_le, ◌==◌, All}
 use Rattle.std.specs.Int.{IsInRange}
-use Rattle.std.specs.List.{AllByRecursion, list_all, list_any, flat_map}
+use Rattle.std.specs.List.{AllByRecursion, list_all, list_any}
 use Rattle.std.proofs.lemmas.Bool.{and_parts, ne_eqb, leb-true, or_from}
 use Rattle.std.proofs.lemmas.Bool.Decides.{nat_tests}
 use Rattle.std.proofs.lemmas.Fmt.{decimal_is_IsNumeral}
@@ -10,7 +10,6 @@ use Rattle.std.proofs.lemmas.List.Elements.{All-cons, All-nil, All-from_get_or, 
 use Rattle.std.proofs.lemmas.List.Folds.{list_any-append, list_any_none}
 use Rattle.std.proofs.lemmas.Str.Parse.{digit_at}
 use Rattle.hex.specs.Hex.{IsBytes, encode_lower}
-use Rattle.blob_words.specs.BlobName.{name_text}
 use Rattle.blob_words.proofs.NameBytes.{IsVisible, name_visible}
 use Rattle.blob_words.specs.Origin.{is_origin, is_origin_byte}
 use Rattle.session_script.specs.Fields.{fields, joined, hex_text, len_text}
@@ -89,23 +88,25 @@ le_trans {a} {b} {c} low high = omega arith
 
 -- the words of an event
 words_visible : (event : Event) → HasSpelling event → AllByRecursion AreVisible (words_of event)
-words_visible (events.Limits l) fits =
-    (word_visible (codes "limits") refl, (
-      decimal_visible l.memory (below_limit _ _ l.memory_bound (omega arith)),
+words_visible (events.Limits l) fits = (
+  word_visible (codes "limits") refl,
+  (
+    decimal_visible l.memory (below_limit _ _ l.memory_bound (omega arith)),
+    (
+      decimal_visible l.disk (below_limit _ _ l.disk_bound (omega arith)),
       (
-        decimal_visible l.disk (below_limit _ _ l.disk_bound (omega arith)),
+        decimal_visible l.big (below_limit _ _ (le_trans l.big_bound l.memory_bound) (omega arith)),
         (
-          decimal_visible l.big (below_limit _ _ (le_trans l.big_bound l.memory_bound) (omega arith)),
+          decimal_visible l.inline_max (below_limit _ _ l.inline_bound (omega arith)),
           (
-            decimal_visible l.inline_max (below_limit _ _ l.inline_bound (omega arith)),
-            (
-              decimal_visible l.segment (below_limit _ _ l.segment_bound (omega arith)),
-              (decimal_visible l.page (below_limit _ _ l.page_bound (omega arith)), (decimal_visible l.chunk (below_limit _ _ l.chunk_bound (omega arith)), tt)),
-            ),
+            decimal_visible l.segment (below_limit _ _ l.segment_bound (omega arith)),
+            (decimal_visible l.page (below_limit _ _ l.page_bound (omega arith)), (decimal_visible l.chunk (below_limit _ _ l.chunk_bound (omega arith)), tt)),
           ),
         ),
       ),
-      ))
+    ),
+  ),
+)
 words_visible (events.Spawn r origin) fits =
     (word_visible (codes "spawn") refl, (decimal_visible r.0 (omega arith), (origin_visible origin fits.1, tt)))
 words_visible (events.Build r b kind all) fits =
