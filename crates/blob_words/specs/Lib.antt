@@ -2,3 +2,4 @@ pub mod Limits
 pub mod BlobName
 pub mod Origin
 pub mod FileName
+pub mod UrlText

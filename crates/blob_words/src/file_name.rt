@@ -1,9 +1,10 @@
-ghost use Rattle.std.specs.Prelude.{◌≡◌, true, false, MatchResult};
+ghost use Rattle.std.specs.Prelude.{◌≡◌, true, false, IfOk, MatchResult};
 ghost use Rattle.std.specs.List.{list_all};
 ghost use Rattle.blob_words.specs.FileName.{is_file_name_byte, is_file_name};
 
-use crate::fault::NameFault;
+use crate::fault::{NameFault, NoMemory};
 use crate::list::Octets;
+use std::alloc::Global;
 use std::marker::Model;
 
 /// The name of a file on the renderer's side. Contracts see its bytes.
@@ -56,6 +57,14 @@ impl FileName {
         } else {
             Err(NameFault::Form)
         }
+    }
+
+    /// The same name once more.
+    pub fn copy(&self, alloc: Global) -> Result<FileName, NoMemory>
+        ensures { IfOk result (λ name. name ≡ self.now) }
+    {
+        let bytes = Octets::from_slice(alloc, self.bytes.as_slice())?;
+        Ok(FileName { bytes })
     }
 
     pub fn as_slice(&self) -> &[u8]

@@ -13,6 +13,8 @@ pub mod origin;
 pub mod plan;
 pub mod status;
 pub mod tally;
+pub mod url_text;
+pub mod version;
 
 pub use counted::Counted;
 pub use fault::{Failed, NameFault, NoMemory};
@@ -26,3 +28,5 @@ pub use origin::Origin;
 pub use plan::Plan;
 pub use status::Status;
 pub use tally::Tally;
+pub use url_text::UrlText;
+pub use version::Version;

@@ -1,9 +1,10 @@
-ghost use Rattle.std.specs.Prelude.{◌≡◌, true, false, MatchResult};
+ghost use Rattle.std.specs.Prelude.{◌≡◌, true, false, IfOk, MatchResult};
 ghost use Rattle.std.specs.List.{list_all};
 ghost use Rattle.blob_words.specs.Origin.{is_origin_byte, is_origin};
 
-use crate::fault::NameFault;
+use crate::fault::{NameFault, NoMemory};
 use crate::list::Octets;
+use std::alloc::Global;
 use std::marker::Model;
 
 /// The serialized origin of a renderer. Contracts see its bytes.
@@ -59,6 +60,14 @@ impl Origin {
         } else {
             Err(NameFault::Form)
         }
+    }
+
+    /// The same origin once more.
+    pub fn copy(&self, alloc: Global) -> Result<Origin, NoMemory>
+        ensures { IfOk result (λ origin. origin ≡ self.now) }
+    {
+        let bytes = Octets::from_slice(alloc, self.bytes.as_slice())?;
+        Ok(Origin { bytes })
     }
 
     pub fn as_slice(&self) -> &[u8]
