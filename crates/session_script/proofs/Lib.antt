@@ -1,8 +1,5 @@
-pub mod Digits
-pub mod Fronts
 pub mod Hex
-pub mod Lines
-pub mod Visible
 pub mod Numbers
+pub mod Outputs
+pub mod Rows
 pub mod Splits
-pub mod Takes

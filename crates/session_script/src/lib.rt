@@ -1,15 +1,14 @@
 //! The events of a session, and the lines that spell them.
 #![tactic(auto)]
 
+pub mod buffer;
 pub mod event;
-mod field;
-mod fields;
-pub mod line;
+pub mod field;
+pub mod fields;
+pub mod letter;
 pub mod line_fault;
-pub mod print;
-mod word;
+pub mod row;
+pub mod word;
 
 pub use event::{Event, Part, Parts};
-pub use line::read_line;
 pub use line_fault::LineFault;
-pub use print::print_event;
