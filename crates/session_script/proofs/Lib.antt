@@ -1,5 +1,12 @@
+pub mod Bytes
+pub mod Each
 pub mod Hex
+pub mod Limits
+pub mod Lines
 pub mod Numbers
 pub mod Outputs
+pub mod Parts
 pub mod Rows
 pub mod Splits
+pub mod Visible
+pub mod Words

@@ -1,13 +1,13 @@
 -- Bytes that are put one after the other.
-use Rattle.std.proofs.Common.{◌≡◌, ℕ, ◌<◌, ◌≤◌, List, [], ◌∷◌, ◌++◌, length, take, drop, Option, Some, None, Result, Ok, Err, inl, inr, refl, sym, ap, ◌∙◌, subst, arith}
+use Rattle.std.proofs.Common.{◌≡◌, ℕ, ◌<◌, ◌≤◌, List, [], ◌∷◌, ◌++◌, length, take, drop, Option, Some, None, OnOk, Result, Ok, Err, inl, inr, refl, sym, ap, ◌∙◌, subst, arith}
 use Rattle.std.specs.Io.KnownBytes.{Appends}
 use Rattle.std.proofs.KnownBytes.{Appends-trans, Appends-nil}
-use Rattle.std.proofs.lemmas.List.{append_assoc, append-nil, length-append, length-drop, take-append-drop}
+use Rattle.std.proofs.lemmas.List.{append_assoc, append-nil, length-append, length-drop, take-append-drop, take_at}
 use Rattle.hex.specs.Hex.{encode_lower, encode_with, lower_digits}
 use Rattle.blob_words.specs.declared.fault.Failed.{Failed}
 use Rattle.blob_source.specs.Faults.{Rose}
 use Rattle.session_script.proofs.Hex.{encode_with-append}
-use Rattle.session_script.specs.Output.{Output, output, Puts, Stops, IsPut}
+use Rattle.session_script.specs.Output.{Output, output, Puts, Stops, IsPut, IsStreamed}
 
 -- a count that rose later rose since before
 pub rose_earlier : (a b c : ℕ) → a ≤ b → Rose b c → Rose a c
@@ -147,3 +147,27 @@ digits_stop a b c bytes rest chunk after failed so_far parts stop =
 pub digits_all : (a b : Output) (bytes rest : List ℕ) → ArePut a b bytes rest → length rest ≡ 0 → Puts a b (encode_lower bytes)
 digits_all a b bytes [] so_far none = subst (λ (all : List ℕ). Puts a b (encode_lower all)) (sym (so_far.parts ∙ append-nil so_far.front)) so_far.put
 digits_all a b bytes (byte ∷ rest) so_far none = absurd (omega arith)
+
+pub put_alone : (a b : Output) (s : List ℕ) (r : Result (Unit {0}) Failed) → IsPut a b s r → IsPut a b (s ++ []) r
+put_alone a b s r put = subst (λ (t : List ℕ). IsPut a b t r) (sym (append-nil s)) put
+
+-- what went through an empty buffer, and left it empty where all was written, was streamed
+pub streamed : (held held' : Option (List ℕ)) (faults faults' : ℕ) (ahead0 ahead text : List ℕ) (r : Result (Unit {0}) Failed) → ahead0 ≡ []
+    → IsPut (output held faults ahead0) (output held' faults' ahead) (text ++ []) r → OnOk r (ahead ≡ []) → IsStreamed held held' faults faults' text r
+streamed held held' faults faults' ahead0 ahead text (Ok done) none put empty =
+    let whole : text ≡ put.gone = sym (append-nil text) ∙ ap (λ (before : List ℕ). before ++ (text ++ [])) (sym none) ∙ put.parts ∙ ap (λ (behind : List ℕ). put.gone ++ behind) empty ∙ append-nil put.gone in
+    (subst (Appends held held') (sym whole) put.appended, put.later)
+streamed held held' faults faults' ahead0 ahead text (Err failed) none stop empty =
+    let whole : text ≡ stop.gone ++ stop.missing = sym (append-nil text) ∙ ap (λ (before : List ℕ). before ++ (text ++ [])) (sym none) ∙ stop.parts in
+    let front : take (length stop.gone) text ≡ stop.gone = ap (take (length stop.gone)) whole ∙ take_at stop.gone stop.missing (length stop.gone) refl in
+    (length stop.gone, omega (arith, stop.lacks, length-append stop.gone stop.missing, ap length whole), subst (Appends held held') (sym front) stop.appended, stop.rose, stop.later)
+
+-- the same where the first bytes are known by another term
+pub word_then : (a b c : Output) (s s' t : List ℕ) (r : Result (Unit {0}) Failed) → s ≡ s' → Puts a b s → IsPut b c t r → IsPut a c (s' ++ t) r
+word_then a b c s s' t r same first second = puts_then a b c s' t r (subst (Puts a b) same first) second
+
+pub word_stops : (a b : Output) (s s' t : List ℕ) → s ≡ s' → Stops a b s → Stops a b (s' ++ t)
+word_stops a b s s' t same stop = stops_early a b s' t (subst (Stops a b) same stop)
+
+pub put_as : (a b : Output) (s s' : List ℕ) (r : Result (Unit {0}) Failed) → s ≡ s' → IsPut a b s r → IsPut a b s' r
+put_as a b s s' r same put = subst (λ (t : List ℕ). IsPut a b t r) same put

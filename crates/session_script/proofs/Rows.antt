@@ -29,7 +29,7 @@ nothing_behind : (front back : List (List ℕ)) → length (front ++ back) ≡ l
 nothing_behind front [] same = refl
 nothing_behind front (text ∷ back) same = absurd (omega (arith, same, length-append front (text ∷ back)))
 
-length_spelled : (kinds : List Kind) (texts : List (List ℕ)) → AllSpell kinds texts → length texts ≡ length kinds
+pub length_spelled : (kinds : List Kind) (texts : List (List ℕ)) → AllSpell kinds texts → length texts ≡ length kinds
 length_spelled [] [] all = refl
 length_spelled [] (text ∷ texts) all = absurd all
 length_spelled (kind ∷ kinds) [] all = absurd all

@@ -2,7 +2,7 @@
 use Rattle.std.specs.Prelude.{ℕ, ◌≡◌, ◌≢◌, ◌⊎◌, ◌^◌, ◌<◌, ◌≤◌, List, [], ◌∷◌, IsSome, length, map, take, drop, decimal}
 use Rattle.std.specs.List.{AllByRecursion}
 use Rattle.blob_words.specs.Limits.{limit_fault}
-use Rattle.session_script.specs.Kind.{Kind, number_32, number_64, number, len, place, name, origin, file_name, url_text, bytes, content_type, AllSpell, IsFirstFault, IsRowFault}
+use Rattle.session_script.specs.Kind.{Kind, number_32, number_64, positive, len, place, name, origin, file_name, url_text, bytes, content_type, AllSpell, IsFirstFault, IsRowFault}
 use Rattle.session_script.specs.Reading.{split}
 use Rattle.session_script.specs.Word.{word_text, letter_text}
 use Rattle.session_script.specs.declared.letter.Letter.{Letter}
@@ -18,7 +18,7 @@ kinds_of_letter letters.Embedded = bytes ∷ []
 kinds_of_letter letters.Asked = number_64 ∷ []
 kinds_of_letter letters.FileRange = file_name ∷ number_64 ∷ number_64 ∷ number_64 ∷ []
 kinds_of_letter letters.BlobRange = name ∷ number_64 ∷ number_64 ∷ []
-kinds_of_letter letters.HandleRange = number_32 ∷ number_64 ∷ number 1 (2 ^ 64) ∷ []
+kinds_of_letter letters.HandleRange = number_32 ∷ number_64 ∷ positive ∷ []
 
 -- the texts between the colons are those of a part
 abbrev pub IsPart : List (List ℕ) → Type 0

@@ -1,7 +1,6 @@
 -- What may stand in a field, and what is wrong with a text that may not. Own format.
 use Rattle.std.specs.Prelude.{ℕ, ℤ, ◌≡◌, ◌⊎◌, ◌^◌, ◌<◌, ◌≤◌, true, List, [], ◌∷◌, Option, IfSome, FitsSigned, length, decimal}
 use Rattle.std.specs.Int.{w64}
-use Rattle.std.specs.List.{Contains}
 use Rattle.hex.specs.Hex.{IsBytes}
 use Rattle.blob_words.specs.BlobName.{name_text}
 use Rattle.blob_words.specs.FileName.{is_file_name}
@@ -11,9 +10,11 @@ use Rattle.session_script.specs.Fields.{hex_text, len_text, place_text}
 use Rattle.session_script.specs.declared.line_fault.LineFault.{LineFault}
 use Rattle.session_script.specs.declared.line_fault.LineFault.TheVariants as faults
 
--- what a field holds: a number from a least one to below a bound, a length, a place, a blob's name, an origin, a file's name, a URL's text, bytes, a content type, or one of some words
+-- what a field holds: a number of 32 bits, one of 64 bits, one of 64 bits that isn't 0, a length, a place in a blob, a blob's name, an origin, a file's name, a URL's text, bytes, or a content type
 pub data Kind : Type 0 where
-  number : ℕ → ℕ → Kind
+  number_32 : Kind
+  number_64 : Kind
+  positive : Kind
   len : Kind
   place : Kind
   name : Kind
@@ -22,18 +23,12 @@ pub data Kind : Type 0 where
   url_text : Kind
   bytes : Kind
   content_type : Kind
-  word : List (List ℕ) → Kind
-
--- a number of 32 bits, and one of 64
-abbrev pub number_32 : Kind
-number_32 = number 0 (2 ^ 32)
-
-abbrev pub number_64 : Kind
-number_64 = number 0 (2 ^ 64)
 
 -- the text spells a value of the kind
 abbrev pub Spells : Kind → List ℕ → Type 0
-Spells (number least bound) text = (n : ℕ) × (least ≤ n) × (n < bound) × (text ≡ decimal n)
+Spells number_32 text = (n : ℕ) × (n < 2 ^ 32) × (text ≡ decimal n)
+Spells number_64 text = (n : ℕ) × (n < 2 ^ 64) × (text ≡ decimal n)
+Spells positive text = (n : ℕ) × (1 ≤ n) × (n < 2 ^ 64) × (text ≡ decimal n)
 Spells len text = (value : Option ℕ) × IfSome value (λ n. n < 2 ^ 64) × (text ≡ len_text value)
 Spells place text = (value : Option ℤ) × IfSome value (λ z. FitsSigned w64 z) × (text ≡ place_text value)
 Spells name text = (n : ℕ) × (n < 2 ^ 128) × (text ≡ name_text n)
@@ -42,11 +37,12 @@ Spells file_name text = is_file_name text ≡ true
 Spells url_text text = is_url_text text ≡ true
 Spells bytes text = (value : List ℕ) × IsBytes value × (text ≡ hex_text value)
 Spells content_type text = (value : List ℕ) × IsBytes value × (length value ≤ 255) × (text ≡ hex_text value)
-Spells (word words) text = Contains words text
 
 -- the class of a text that spells no value of the kind
 abbrev pub IsClass : Kind → LineFault → List ℕ → Type 0
-IsClass (number least bound) fault text = fault ≡ faults.Number
+IsClass number_32 fault text = fault ≡ faults.Number
+IsClass number_64 fault text = fault ≡ faults.Number
+IsClass positive fault text = fault ≡ faults.Number
 IsClass len fault text = fault ≡ faults.Number
 IsClass place fault text = fault ≡ faults.Number
 IsClass name fault text = fault ≡ faults.Name
@@ -55,7 +51,6 @@ IsClass file_name fault text = fault ≡ faults.Name
 IsClass url_text fault text = fault ≡ faults.Name
 IsClass bytes fault text = fault ≡ faults.Hex
 IsClass content_type fault text = (Spells bytes text × (fault ≡ faults.Type)) ⊎ ((Spells bytes text → ⊥) × (fault ≡ faults.Hex))
-IsClass (word words) fault text = fault ≡ faults.Word
 
 -- the text spells no value of the kind, and this is its class
 abbrev pub IsFaultOf : Kind → LineFault → List ℕ → Type 0

@@ -4,4 +4,5 @@ pub mod Reading
 pub mod Word
 pub mod Line
 pub mod Fault
+pub mod EventReading
 pub mod Output

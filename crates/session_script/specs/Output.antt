@@ -1,5 +1,5 @@
 -- What is written to a sink through a buffer. Own.
-use Rattle.std.specs.Prelude.{ℕ, ◌≡◌, ◌<◌, ◌≤◌, List, ◌++◌, length, Option, Result, Ok, Err}
+use Rattle.std.specs.Prelude.{ℕ, ◌≡◌, ◌<◌, ◌≤◌, List, ◌++◌, length, take, Option, Result, Ok, Err}
 use Rattle.std.specs.Io.KnownBytes.{Appends}
 use Rattle.blob_words.specs.declared.fault.Failed.{Failed}
 use Rattle.blob_source.specs.Faults.{Rose}
@@ -34,3 +34,8 @@ pub record Stops (old new : Output) (bytes : List ℕ) : Type 0 where
 abbrev pub IsPut : Output → Output → List ℕ → Result (Unit {0}) Failed → Type 0
 IsPut old new bytes (Ok done) = Puts old new bytes
 IsPut old new bytes (Err failed) = Stops old new bytes
+
+-- what a call that writes a text says by its answer: all of it was appended, or a front that lacks some byte, and the count rose
+abbrev pub IsStreamed : Option (List ℕ) → Option (List ℕ) → ℕ → ℕ → List ℕ → Result (Unit {0}) Failed → Type 0
+IsStreamed held held' faults faults' text (Ok done) = Appends held held' text × (faults ≤ faults')
+IsStreamed held held' faults faults' text (Err failed) = (n : ℕ) × (n < length text) × Appends held held' (take n text) × Rose faults faults' × (faults ≤ faults')

@@ -124,7 +124,8 @@ impl<A: Field + Drop, B: Field + Drop, C: Field + Drop, D: Field> Row for (A, B,
     }
 }
 
-impl<A: Field + Drop, B: Field + Drop, C: Field + Drop, D: Field + Drop, E: Field> Row for (A, B, C, D, E) {
+impl<A: Field + Drop, B: Field + Drop, C: Field + Drop, D: Field + Drop, E: Field> Row
+    for (A, B, C, D, E) {
     const COUNT: usize = 5;
 
     ghost COUNT = { 5 };
@@ -146,7 +147,14 @@ impl<A: Field + Drop, B: Field + Drop, C: Field + Drop, D: Field + Drop, E: Fiel
     }
 }
 
-impl<A: Field + Drop, B: Field + Drop, C: Field + Drop, D: Field + Drop, E: Field + Drop, F: Field> Row for (A, B, C, D, E, F) {
+impl<
+    A: Field + Drop,
+    B: Field + Drop,
+    C: Field + Drop,
+    D: Field + Drop,
+    E: Field + Drop,
+    F: Field,
+> Row for (A, B, C, D, E, F) {
     const COUNT: usize = 6;
 
     ghost COUNT = { 6 };
@@ -168,7 +176,15 @@ impl<A: Field + Drop, B: Field + Drop, C: Field + Drop, D: Field + Drop, E: Fiel
     }
 }
 
-impl<A: Field + Drop, B: Field + Drop, C: Field + Drop, D: Field + Drop, E: Field + Drop, F: Field + Drop, G: Field> Row for (A, B, C, D, E, F, G) {
+impl<
+    A: Field + Drop,
+    B: Field + Drop,
+    C: Field + Drop,
+    D: Field + Drop,
+    E: Field + Drop,
+    F: Field + Drop,
+    G: Field,
+> Row for (A, B, C, D, E, F, G) {
     const COUNT: usize = 7;
 
     ghost COUNT = { 7 };

@@ -10,7 +10,7 @@ ghost use Rattle.session_script.specs.Output.{output, IsPut};
 ghost use Rattle.session_script.specs.Reading.{is_lower_digit, IsReading};
 
 use crate::buffer::Buffer;
-use crate::field::Field;
+use crate::field::{Field, Spell};
 use crate::line_fault::LineFault;
 use blob_source::Sink;
 use blob_words::{Failed, Octets};
@@ -94,21 +94,31 @@ fn put_chunk<K: Sink>(buffer: &mut Buffer, out: &mut K, chunk: &[u8]) -> Result<
     buffer.put(out, &*text)
 }
 
+impl Spell for Octets {
+    ghost spell = { hex_text };
+
+    fn put<K: Sink>(&self, buffer: &mut Buffer, out: &mut K) -> Result<(), Failed> {
+        put_hex(buffer, out, self.as_slice())
+    }
+}
+
 impl Field for Octets {
     ghost kind = { bytes };
 
     ghost Fits = { IsBytes };
-
-    ghost spell = { hex_text };
 
     ghost spelled = { λ value fits. (value, fits, refl) };
 
     fn read(alloc: Global, text: &[u8]) -> Result<Self, LineFault> {
         read_hex(alloc, text)
     }
+}
+
+impl Spell for ContentType {
+    ghost spell = { λ kind. hex_text kind.0 };
 
     fn put<K: Sink>(&self, buffer: &mut Buffer, out: &mut K) -> Result<(), Failed> {
-        put_hex(buffer, out, self.as_slice())
+        put_hex(buffer, out, self.0.as_slice())
     }
 }
 
@@ -116,8 +126,6 @@ impl Field for ContentType {
     ghost kind = { content_type };
 
     ghost Fits = { λ kind. IsContentType kind.0 };
-
-    ghost spell = { λ kind. hex_text kind.0 };
 
     ghost spelled = { λ kind fits. (kind.0, fits.0, fits.1, refl) };
 
@@ -131,9 +139,5 @@ impl Field for ContentType {
             }
             Err(fault) => Err(fault),
         }
-    }
-
-    fn put<K: Sink>(&self, buffer: &mut Buffer, out: &mut K) -> Result<(), Failed> {
-        put_hex(buffer, out, self.0.as_slice())
     }
 }

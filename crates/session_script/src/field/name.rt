@@ -8,18 +8,26 @@ ghost use Rattle.blob_words.specs.UrlText.{is_url_text};
 ghost use Rattle.session_script.specs.Kind.{name, origin, file_name, url_text};
 
 use crate::buffer::Buffer;
-use crate::field::Field;
+use crate::field::{Field, Spell};
 use crate::line_fault::LineFault;
 use blob_source::Sink;
 use blob_words::{BlobName, Failed, FileName, Octets, Origin, UrlText};
 use std::alloc::Global;
 
+impl Spell for BlobName {
+    ghost spell = { name_text };
+
+    fn put<K: Sink>(&self, buffer: &mut Buffer, out: &mut K) -> Result<(), Failed> {
+        let mut text = [0u8; 36];
+        self.write_text(&mut text);
+        buffer.put(out, text.as_slice())
+    }
+}
+
 impl Field for BlobName {
     ghost kind = { name };
 
     ghost Fits = { λ n. n < 2 ^ 128 };
-
-    ghost spell = { name_text };
 
     ghost spelled = { λ n fits. (n, fits, refl) };
 
@@ -32,11 +40,13 @@ impl Field for BlobName {
             Err(_) => Err(LineFault::Name),
         }
     }
+}
+
+impl Spell for Origin {
+    ghost spell = { λ text. text };
 
     fn put<K: Sink>(&self, buffer: &mut Buffer, out: &mut K) -> Result<(), Failed> {
-        let mut text = [0u8; 36];
-        self.write_text(&mut text);
-        buffer.put(out, text.as_slice())
+        buffer.put(out, self.as_slice())
     }
 }
 
@@ -44,8 +54,6 @@ impl Field for Origin {
     ghost kind = { origin };
 
     ghost Fits = { λ text. is_origin text ≡ true };
-
-    ghost spell = { λ text. text };
 
     ghost spelled = { λ text fits. fits };
 
@@ -58,6 +66,10 @@ impl Field for Origin {
             Err(_) => Err(LineFault::Name),
         }
     }
+}
+
+impl Spell for FileName {
+    ghost spell = { λ text. text };
 
     fn put<K: Sink>(&self, buffer: &mut Buffer, out: &mut K) -> Result<(), Failed> {
         buffer.put(out, self.as_slice())
@@ -68,8 +80,6 @@ impl Field for FileName {
     ghost kind = { file_name };
 
     ghost Fits = { λ text. is_file_name text ≡ true };
-
-    ghost spell = { λ text. text };
 
     ghost spelled = { λ text fits. fits };
 
@@ -82,6 +92,10 @@ impl Field for FileName {
             Err(_) => Err(LineFault::Name),
         }
     }
+}
+
+impl Spell for UrlText {
+    ghost spell = { λ text. text };
 
     fn put<K: Sink>(&self, buffer: &mut Buffer, out: &mut K) -> Result<(), Failed> {
         buffer.put(out, self.as_slice())
@@ -93,8 +107,6 @@ impl Field for UrlText {
 
     ghost Fits = { λ text. is_url_text text ≡ true };
 
-    ghost spell = { λ text. text };
-
     ghost spelled = { λ text fits. fits };
 
     fn read(alloc: Global, text: &[u8]) -> Result<Self, LineFault> {
@@ -105,9 +117,5 @@ impl Field for UrlText {
             Ok(name) => Ok(name),
             Err(_) => Err(LineFault::Name),
         }
-    }
-
-    fn put<K: Sink>(&self, buffer: &mut Buffer, out: &mut K) -> Result<(), Failed> {
-        buffer.put(out, self.as_slice())
     }
 }

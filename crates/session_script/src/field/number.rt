@@ -4,16 +4,15 @@ ghost use Rattle.std.specs.Prelude.{◌≡◌, ◌==◌, ◌&&◌, ◌||◌, ℕ
 ghost use Rattle.std.specs.Fmt.{signed_decimal};
 ghost use Rattle.std.specs.Int.{w64};
 ghost use Rattle.session_script.specs.Fields.{len_text, place_text};
-ghost use Rattle.session_script.specs.Kind.{number, number_32, number_64, len, place, IsFaultOf};
+ghost use Rattle.session_script.specs.Kind.{number_32, number_64, positive, len, place, IsFaultOf};
 ghost use Rattle.session_script.specs.Output.{output, IsPut};
 ghost use Rattle.session_script.specs.Reading.{is_plain, IsExact, IsSignedFault};
-ghost use Rattle.std.proofs.Common.{rules};
 
 use crate::buffer::Buffer;
-use crate::field::Field;
+use crate::field::{Field, Spell};
 use crate::line_fault::LineFault;
 use blob_source::Sink;
-use blob_words::{Failed, RendererId, ReaderId, JobNo, PageNo, PieceNo};
+use blob_words::{Failed, JobNo, PageNo, PieceNo, ReaderId, RendererId};
 use std::alloc::Global;
 use std::str;
 
@@ -61,7 +60,7 @@ fn read_number_32(text: &[u8]) -> Result<u32, LineFault>
 }
 
 fn read_positive(text: &[u8]) -> Result<u64, LineFault>
-    ensures { IsExact (IsFaultOf (number 1 (2 ^ 64))) (λ n. (1 ≤ n) × (n < 2 ^ 64)) decimal text.now result }
+    ensures { IsExact (IsFaultOf positive) (λ n. (1 ≤ n) × (n < 2 ^ 64)) decimal text.now result }
 {
     match read_number(text) {
         Ok(number) => {
@@ -131,21 +130,31 @@ fn put_signed<K: Sink>(buffer: &mut Buffer, out: &mut K, number: i64) -> Result<
     buffer.put(out, digits.format(number).as_bytes())
 }
 
+impl Spell for u64 {
+    ghost spell = { decimal };
+
+    fn put<K: Sink>(&self, buffer: &mut Buffer, out: &mut K) -> Result<(), Failed> {
+        put_number(buffer, out, *self)
+    }
+}
+
 impl Field for u64 {
     ghost kind = { number_64 };
 
     ghost Fits = { λ n. n < 2 ^ 64 };
 
-    ghost spell = { decimal };
-
-    ghost spelled = { λ n fits. (n, Prim.search rules, fits, refl) };
+    ghost spelled = { λ n fits. (n, fits, refl) };
 
     fn read(_alloc: Global, text: &[u8]) -> Result<Self, LineFault> {
         read_number(text)
     }
+}
+
+impl Spell for u32 {
+    ghost spell = { decimal };
 
     fn put<K: Sink>(&self, buffer: &mut Buffer, out: &mut K) -> Result<(), Failed> {
-        put_number(buffer, out, *self)
+        put_number(buffer, out, u64::from(*self))
     }
 }
 
@@ -154,25 +163,25 @@ impl Field for u32 {
 
     ghost Fits = { λ n. n < 2 ^ 32 };
 
-    ghost spell = { decimal };
-
-    ghost spelled = { λ n fits. (n, Prim.search rules, fits, refl) };
+    ghost spelled = { λ n fits. (n, fits, refl) };
 
     fn read(_alloc: Global, text: &[u8]) -> Result<Self, LineFault> {
         read_number_32(text)
     }
+}
+
+impl Spell for Positive {
+    ghost spell = { λ n. decimal n.0 };
 
     fn put<K: Sink>(&self, buffer: &mut Buffer, out: &mut K) -> Result<(), Failed> {
-        put_number(buffer, out, u64::from(*self))
+        put_number(buffer, out, self.0)
     }
 }
 
 impl Field for Positive {
-    ghost kind = { number 1 (2 ^ 64) };
+    ghost kind = { positive };
 
     ghost Fits = { λ n. (1 ≤ n.0) × (n.0 < 2 ^ 64) };
-
-    ghost spell = { λ n. decimal n.0 };
 
     ghost spelled = { λ n fits. (n.0, fits.0, fits.1, refl) };
 
@@ -182,9 +191,16 @@ impl Field for Positive {
             Err(fault) => Err(fault),
         }
     }
+}
+
+impl Spell for Option<u64> {
+    ghost spell = { len_text };
 
     fn put<K: Sink>(&self, buffer: &mut Buffer, out: &mut K) -> Result<(), Failed> {
-        put_number(buffer, out, self.0)
+        match *self {
+            Some(number) => put_number(buffer, out, number),
+            None => buffer.put_byte(out, b'_'),
+        }
     }
 }
 
@@ -193,17 +209,19 @@ impl Field for Option<u64> {
 
     ghost Fits = { λ value. IfSome value (λ n. n < 2 ^ 64) };
 
-    ghost spell = { len_text };
-
     ghost spelled = { λ value fits. (value, fits, refl) };
 
     fn read(_alloc: Global, text: &[u8]) -> Result<Self, LineFault> {
         read_len(text)
     }
+}
+
+impl Spell for Option<i64> {
+    ghost spell = { place_text };
 
     fn put<K: Sink>(&self, buffer: &mut Buffer, out: &mut K) -> Result<(), Failed> {
         match *self {
-            Some(number) => put_number(buffer, out, number),
+            Some(number) => put_signed(buffer, out, number),
             None => buffer.put_byte(out, b'_'),
         }
     }
@@ -214,19 +232,18 @@ impl Field for Option<i64> {
 
     ghost Fits = { λ value. IfSome value (λ z. FitsSigned w64 z) };
 
-    ghost spell = { place_text };
-
     ghost spelled = { λ value fits. (value, fits, refl) };
 
     fn read(_alloc: Global, text: &[u8]) -> Result<Self, LineFault> {
         read_place(text)
     }
+}
+
+impl Spell for RendererId {
+    ghost spell = { λ n. decimal n.0 };
 
     fn put<K: Sink>(&self, buffer: &mut Buffer, out: &mut K) -> Result<(), Failed> {
-        match *self {
-            Some(number) => put_signed(buffer, out, number),
-            None => buffer.put_byte(out, b'_'),
-        }
+        put_number(buffer, out, u64::from(self.0))
     }
 }
 
@@ -235,9 +252,7 @@ impl Field for RendererId {
 
     ghost Fits = { λ n. n.0 < 2 ^ 32 };
 
-    ghost spell = { λ n. decimal n.0 };
-
-    ghost spelled = { λ n fits. (n.0, Prim.search rules, fits, refl) };
+    ghost spelled = { λ n fits. (n.0, fits, refl) };
 
     fn read(_alloc: Global, text: &[u8]) -> Result<Self, LineFault> {
         match read_number_32(text) {
@@ -245,6 +260,10 @@ impl Field for RendererId {
             Err(fault) => Err(fault),
         }
     }
+}
+
+impl Spell for ReaderId {
+    ghost spell = { λ n. decimal n.0 };
 
     fn put<K: Sink>(&self, buffer: &mut Buffer, out: &mut K) -> Result<(), Failed> {
         put_number(buffer, out, u64::from(self.0))
@@ -256,9 +275,7 @@ impl Field for ReaderId {
 
     ghost Fits = { λ n. n.0 < 2 ^ 32 };
 
-    ghost spell = { λ n. decimal n.0 };
-
-    ghost spelled = { λ n fits. (n.0, Prim.search rules, fits, refl) };
+    ghost spelled = { λ n fits. (n.0, fits, refl) };
 
     fn read(_alloc: Global, text: &[u8]) -> Result<Self, LineFault> {
         match read_number_32(text) {
@@ -266,6 +283,10 @@ impl Field for ReaderId {
             Err(fault) => Err(fault),
         }
     }
+}
+
+impl Spell for JobNo {
+    ghost spell = { λ n. decimal n.0 };
 
     fn put<K: Sink>(&self, buffer: &mut Buffer, out: &mut K) -> Result<(), Failed> {
         put_number(buffer, out, u64::from(self.0))
@@ -277,9 +298,7 @@ impl Field for JobNo {
 
     ghost Fits = { λ n. n.0 < 2 ^ 32 };
 
-    ghost spell = { λ n. decimal n.0 };
-
-    ghost spelled = { λ n fits. (n.0, Prim.search rules, fits, refl) };
+    ghost spelled = { λ n fits. (n.0, fits, refl) };
 
     fn read(_alloc: Global, text: &[u8]) -> Result<Self, LineFault> {
         match read_number_32(text) {
@@ -287,6 +306,10 @@ impl Field for JobNo {
             Err(fault) => Err(fault),
         }
     }
+}
+
+impl Spell for PageNo {
+    ghost spell = { λ n. decimal n.0 };
 
     fn put<K: Sink>(&self, buffer: &mut Buffer, out: &mut K) -> Result<(), Failed> {
         put_number(buffer, out, u64::from(self.0))
@@ -298,9 +321,7 @@ impl Field for PageNo {
 
     ghost Fits = { λ n. n.0 < 2 ^ 32 };
 
-    ghost spell = { λ n. decimal n.0 };
-
-    ghost spelled = { λ n fits. (n.0, Prim.search rules, fits, refl) };
+    ghost spelled = { λ n fits. (n.0, fits, refl) };
 
     fn read(_alloc: Global, text: &[u8]) -> Result<Self, LineFault> {
         match read_number_32(text) {
@@ -308,6 +329,10 @@ impl Field for PageNo {
             Err(fault) => Err(fault),
         }
     }
+}
+
+impl Spell for PieceNo {
+    ghost spell = { λ n. decimal n.0 };
 
     fn put<K: Sink>(&self, buffer: &mut Buffer, out: &mut K) -> Result<(), Failed> {
         put_number(buffer, out, u64::from(self.0))
@@ -319,18 +344,12 @@ impl Field for PieceNo {
 
     ghost Fits = { λ n. n.0 < 2 ^ 32 };
 
-    ghost spell = { λ n. decimal n.0 };
-
-    ghost spelled = { λ n fits. (n.0, Prim.search rules, fits, refl) };
+    ghost spelled = { λ n fits. (n.0, fits, refl) };
 
     fn read(_alloc: Global, text: &[u8]) -> Result<Self, LineFault> {
         match read_number_32(text) {
             Ok(number) => Ok(PieceNo(number)),
             Err(fault) => Err(fault),
         }
-    }
-
-    fn put<K: Sink>(&self, buffer: &mut Buffer, out: &mut K) -> Result<(), Failed> {
-        put_number(buffer, out, u64::from(self.0))
     }
 }

@@ -10,11 +10,11 @@ use Rattle.session_script.proofs.field.number.read_number.Goals as goal
 
 pub returns-then-not-is_plain : goal.returns-then-not-is_plain
 returns-then-not-is_plain c =
-    (λ (s : Spells number_64 c.args.text.now). both_ways _ c.if-not-is_plain.true (c.is_plain.ensures ∙ ap is_plain s.3 ∙ plain_decimal s.0 s.2), refl)
+    (λ (s : Spells number_64 c.args.text.now). both_ways _ c.if-not-is_plain.true (c.is_plain.ensures ∙ ap is_plain s.2 ∙ plain_decimal s.0 s.1), refl)
 
 pub returns-in_default : goal.returns-in_default
 returns-in_default c =
-    (λ (s : Spells number_64 c.args.text.now). c.in_default.ensures.cases.0 (subst IsUtf8 (sym s.3) (IsUtf8-from_ascii (decimal s.0) (IsAscii-decimal s.0 s.2))), refl)
+    (λ (s : Spells number_64 c.args.text.now). c.in_default.ensures.cases.0 (subst IsUtf8 (sym s.2) (IsUtf8-from_ascii (decimal s.0) (IsAscii-decimal s.0 s.1))), refl)
 
 pub returns-in-Ok-parse : goal.returns-in-Ok-parse
 returns-in-Ok-parse c =
@@ -25,8 +25,10 @@ returns-in-Ok-parse c =
     (number.0, sym text ∙ number.1)
 
 pub returns-in-Err : goal.returns-in-Err
-returns-in-Err c =
-    (λ (s : Spells number_64 c.args.text.now).
-    let text = c.in-Ok.ensures.cases.0 ∙ s.3 in
-    let parsed = parse-decimal 64 s.0 c.in-Ok.digits.now c.parse.result s.2 s.2 text c.parse.ensures.value.0 in
-    cc (parsed, c.in-Err.is), refl)
+returns-in-Err c = (
+  λ (s : Spells number_64 c.args.text.now).
+      let text = c.in-Ok.ensures.cases.0 ∙ s.2 in
+      let parsed = parse-decimal 64 s.0 c.in-Ok.digits.now c.parse.result s.1 s.1 text c.parse.ensures.value.0 in
+      cc (parsed, c.in-Err.is),
+  refl,
+)
