@@ -2,7 +2,7 @@
 use Rattle.std.proofs.Common.{◌≡◌, ◌≢◌, ℕ, ◌⊎◌, ◌<◌, ◌^◌, List, [], ◌∷◌, length, map, take, drop, decimal, inl, inr, refl, sym, ap, ◌∙◌, subst, arith}
 use Rattle.std.specs.List.{AllByRecursion}
 use Rattle.session_script.specs.Fault.{IsPart, IsPartFault, IsFirstPartFault, AreNoLimits, IsBuildCount, IsBuildFault, IsLimitsFault, IsOwnFault, IsWordsFault, IsLineFault, kinds_of, kinds_of_letter}
-use Rattle.session_script.specs.Kind.{Kind, Spells, IsClass, IsFaultOf, AllSpell, IsFirstFault, IsRowFault, number_32, number_64, positive, len, place, name, origin, file_name, url_text, bytes, content_type}
+use Rattle.session_script.specs.Kind.{Kind, Spells, IsClass, IsFaultOf, AllSpell, IsFirstFault, IsRowFault, number_32, number_64, positive, len, place, name, origin, file_name, url_text, bytes, content_type, some_bytes, broken, ending, status, switch}
 use Rattle.session_script.specs.Reading.{split}
 use Rattle.session_script.specs.Word.{word_text, letter_text}
 use Rattle.session_script.specs.declared.letter.Letter.{Letter}
@@ -23,6 +23,11 @@ class_once origin text f g a b = a ∙ sym b
 class_once file_name text f g a b = a ∙ sym b
 class_once url_text text f g a b = a ∙ sym b
 class_once bytes text f g a b = a ∙ sym b
+class_once some_bytes text f g a b = a ∙ sym b
+class_once broken text f g a b = a ∙ sym b
+class_once ending text f g a b = a ∙ sym b
+class_once status text f g a b = a ∙ sym b
+class_once switch text f g a b = a ∙ sym b
 class_once content_type text f g (inl a) (inl b) = a.1 ∙ sym b.1
 class_once content_type text f g (inl a) (inr b) = absurd (b.0 a.0)
 class_once content_type text f g (inr a) (inl b) = absurd (a.0 b.0)
