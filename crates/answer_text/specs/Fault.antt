@@ -1,8 +1,10 @@
 -- Which texts are answers, refusals and plans, and what their readers say. Own.
-use Rattle.std.specs.Prelude.{ℕ, ◌≡◌, ◌<◌, List, [], ◌∷◌, codes, length, Result, Ok, Err}
+use Rattle.std.specs.Prelude.{ℕ, ◌≡◌, ◌<◌, List, [], ◌∷◌, ◌++◌, codes, length, Result, Ok, Err}
 use Rattle.std.specs.List.{AllByRecursion}
 use Rattle.blob_words.specs.declared.counted.Counted.{Counted}
 use Rattle.session_script.specs.Kind.{Kind, number_32, number_64, name, file_name, content_type, some_bytes, broken, ending, status, switch, Spells, AllSpell}
+use Rattle.session_script.specs.declared.line_fault.LineFault.{LineFault}
+use Rattle.session_script.specs.declared.line_fault.LineFault.TheVariants as line_faults
 use Rattle.answer_text.specs.Word.{word_text, refusal_text, plan_text, counted_fields}
 use Rattle.answer_text.specs.declared.answer_word.AnswerWord.{AnswerWord}
 use Rattle.answer_text.specs.declared.answer_word.AnswerWord.TheVariants as words
@@ -129,8 +131,26 @@ abbrev pub IsTally : List (List ℕ) → Type 0
 IsTally [] = ⊥
 IsTally (first ∷ own) = (first ≡ codes "=") × AllSpell tally_kinds own
 
+-- what a fault of a field means for an answer
+abbrev pub form_of : LineFault → TextFault
+form_of line_faults.Memory = faults.Memory
+form_of fault = faults.Form
+
+-- what a refusal says: the texts spell no value; want of memory says nothing
+abbrev pub Refuses : {S : Type 0} → (S → Type 0) → S → TextFault → Type 0
+Refuses Is texts faults.Form = Is texts → ⊥
+Refuses Is texts faults.Memory = Unit {0}
+
 -- what a reader says: the value that the texts spell, or that they spell none
 abbrev pub ReadsAs : {A S : Type 0} → (S → Type 0) → (A → Type 0) → (A → S) → S → Result A TextFault → Type 0
 ReadsAs Is Has spell texts (Ok value) = Has value × (texts ≡ spell value)
-ReadsAs Is Has spell texts (Err faults.Form) = Is texts → ⊥
-ReadsAs Is Has spell texts (Err faults.Memory) = Unit {0}
+ReadsAs Is Has spell texts (Err fault) = Refuses Is texts fault
+
+-- some texts of these kinds stand in front
+abbrev pub HasFront : List Kind → List (List ℕ) → Type 0
+HasFront kinds texts = (front back : List (List ℕ)) × (texts ≡ front ++ back) × AllSpell kinds front
+
+-- what a reader of the first few of some texts says, with the texts before and after the call
+abbrev pub TakesAs : {A : Type 0} → List Kind → (A → Type 0) → (A → List (List ℕ)) → List (List ℕ) → List (List ℕ) → Result A TextFault → Type 0
+TakesAs kinds Fit spell old new (Ok values) = Fit values × (old ≡ spell values ++ new)
+TakesAs kinds Fit spell old new (Err fault) = Refuses (HasFront kinds) old fault

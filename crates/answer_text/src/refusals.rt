@@ -344,7 +344,13 @@ fn put_counted<K: Sink>(buffer: &mut Buffer, out: &mut K, counted: Counted) -> R
     ensures { IsPut (output (K.held out.old) (K.faults out.old) buffer.old) (output (K.held out.new) (K.faults out.new) buffer.new) (fields 32 (counted_fields counted)) result }
 {
     let (word, limit) = counted_texts(counted);
-    put_two(buffer, out, b' ', &Literal { text: word }, &Literal { text: limit })
+    put_two(
+        buffer,
+        out,
+        b' ',
+        &Literal { text: word },
+        &Literal { text: limit },
+    )
 }
 
 fn put_behind<K: Sink>(buffer: &mut Buffer, out: &mut K, refusal: &Refusal) -> Result<(), Failed>
@@ -383,7 +389,14 @@ pub fn put_refusal<K: Sink>(
 ) -> Result<(), Failed>
     ensures { IsPut (output (K.held out.old) (K.faults out.old) buffer.old) (output (K.held out.new) (K.faults out.new) buffer.new) (fields 32 (refusal_text (refusal_word_of refusal.now) ∷ refusal_fields refusal.now)) result }
 {
-    match put_one(buffer, out, b' ', &Literal { text: word_of(refusal).text() }) {
+    match put_one(
+        buffer,
+        out,
+        b' ',
+        &Literal {
+            text: word_of(refusal).text(),
+        },
+    ) {
         Ok(()) => put_behind(buffer, out, refusal),
         Err(Failed) => Err(Failed),
     }
