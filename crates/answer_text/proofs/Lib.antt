@@ -1,3 +1,5 @@
 pub mod Answers
-pub mod Rows
+pub mod Feeds
+pub mod GroupLemmas
+pub mod RowLemmas
 pub mod Words
