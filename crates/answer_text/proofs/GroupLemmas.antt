@@ -30,10 +30,10 @@ use Rattle.answer_text.proofs.Words.{not_equals}
 
 -- ---- lines and their line feeds
 
-line_rest : (line rest : List ℕ) → (line ++ 10 ∷ []) ++ rest ≡ line ++ 10 ∷ rest
+pub line_rest : (line rest : List ℕ) → (line ++ 10 ∷ []) ++ rest ≡ line ++ 10 ∷ rest
 line_rest line rest = append_assoc line (10 ∷ []) rest
 
-event_rest : (event : Event) (rest : List ℕ) → event_line event ++ rest ≡ (codes "> " ++ line_of event) ++ 10 ∷ rest
+pub event_rest : (event : Event) (rest : List ℕ) → event_line event ++ rest ≡ (codes "> " ++ line_of event) ++ 10 ∷ rest
 event_rest event rest = ap (λ (l : List ℕ). l ++ rest) (sym (append_assoc (codes "> ") (line_of event) (10 ∷ []))) ∙ line_rest (codes "> " ++ line_of event) rest
 
 pub event_feedless : (event : Event) → HasSpelling event → has_line_feed (codes "> " ++ line_of event) ≡ false
@@ -178,12 +178,12 @@ answer_no_tally answer tally fits fits' same =
     first : (x y : List ℕ) (xs ys : List (List ℕ)) → x ∷ xs ≡ y ∷ ys → x ≡ y
     first x y xs ys e = cc e
 
-group_rest : (group : Group) (rest : List ℕ) → group_text group ++ rest ≡ event_line group.event ++ (flat_map answer_line group.answers ++ (tally_line group.tally ++ rest))
+pub group_rest : (group : Group) (rest : List ℕ) → group_text group ++ rest ≡ event_line group.event ++ (flat_map answer_line group.answers ++ (tally_line group.tally ++ rest))
 group_rest group rest =
     append_assoc (event_line group.event) (flat_map answer_line group.answers ++ tally_line group.tally) rest
     ∙ ap (λ (l : List ℕ). event_line group.event ++ l) (append_assoc (flat_map answer_line group.answers) (tally_line group.tally) rest)
 
-answers_rest : (answer : Answer) (all : List Answer) (rest : List ℕ) → flat_map answer_line (answer ∷ all) ++ rest ≡ answer_text answer ++ 10 ∷ (flat_map answer_line all ++ rest)
+pub answers_rest : (answer : Answer) (all : List Answer) (rest : List ℕ) → flat_map answer_line (answer ∷ all) ++ rest ≡ answer_text answer ++ 10 ∷ (flat_map answer_line all ++ rest)
 answers_rest answer all rest = append_assoc (answer_line answer) (flat_map answer_line all) rest ∙ line_rest (answer_text answer) (flat_map answer_line all ++ rest)
 
 walk : (xs bs : List Answer) (tally : Tally) (rest rest' : List ℕ) → AllByRecursion HasText xs → AllByRecursion HasText bs → TallyHasText tally → HasNoFurther rest

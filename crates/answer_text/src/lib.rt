@@ -11,6 +11,7 @@ pub mod group_fault;
 pub mod group_reader;
 pub mod group_writer;
 pub mod lines;
+pub mod laws;
 pub mod literal;
 pub mod plan_word;
 pub mod plans;
