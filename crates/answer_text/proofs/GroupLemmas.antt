@@ -1,24 +1,21 @@
 -- Groups, read line by line.
-use Rattle.std.proofs.Common.{◌≡◌, ◌≢◌, ℕ, ◌+◌, ◌-◌, ◌<◌, ◌≤◌, List, [], ◌∷◌, ◌++◌, length, true, false, codes, decimal, Result, Ok, Err, inl, inr, refl, sym, ap, ◌∙◌, subst, arith}
+use Rattle.std.proofs.Common.{◌≡◌, ℕ, ◌+◌, ◌-◌, List, [], ◌∷◌, ◌++◌, length, false, codes, Result, Ok, Err, inl, inr, refl, sym, ap, ◌∙◌, subst, arith}
 use Rattle.std.specs.List.{AllByRecursion, flat_map}
 use Rattle.std.proofs.lemmas.Bool.{both_ways}
 use Rattle.std.proofs.lemmas.Grind.{flat_map-append}
 use Rattle.std.proofs.lemmas.List.{append_assoc, append-nil, length-append}
 use Rattle.blob_source.specs.Lines.{has_line_feed}
 use Rattle.blob_words.specs.declared.tally.Tally.{Tally}
-use Rattle.session_script.specs.Fault.{IsLineFault}
 use Rattle.session_script.specs.Fields.{joined}
 use Rattle.session_script.specs.Line.{line_of, HasSpelling}
 use Rattle.session_script.specs.Reading.{split}
 use Rattle.session_script.specs.declared.event.Event.{Event}
 use Rattle.session_script.proofs.Lines.{line_of-feedless}
 use Rattle.session_script.proofs.Splits.{joined-split}
-use Rattle.answer_text.specs.Fault.{IsAnswer, IsTally, Refuses, tally_kinds}
+use Rattle.answer_text.specs.Fault.{IsAnswer, IsTally, Refuses}
 use Rattle.answer_text.specs.Groups.{HasNoEvent, HasNoFurther, IsCut, IsPlace, HasNoGroup, ReadsGroup, ReadsEventLine, ReadsFurther, ReadsBehind, AreAnswers, IsCutBehind}
-use Rattle.answer_text.specs.Text.{answer_text, tally_text, tally_fields, event_line, answer_line, tally_line, group_text, word_of, HasText, TallyHasText, GroupHasText}
-use Rattle.answer_text.specs.Word.{word_text}
+use Rattle.answer_text.specs.Text.{answer_text, tally_text, tally_fields, event_line, answer_line, tally_line, group_text, word_of, HasText, TallyHasText}
 use Rattle.answer_text.specs.declared.answer.Answer.{Answer}
-use Rattle.answer_text.specs.declared.further.Further.{Further}
 use Rattle.answer_text.specs.declared.group.Group.{Group}
 use Rattle.answer_text.specs.declared.group_fault.GroupFault.{GroupFault}
 use Rattle.answer_text.specs.declared.group_fault.GroupFault.TheVariants as group_faults
@@ -66,8 +63,11 @@ unended_place text none = inl (refl, unended_event text none)
 
 pub wrong_event : (text line rest : List ℕ) → has_line_feed line ≡ false → text ≡ line ++ 10 ∷ rest → ReadsEventLine line (Err faults.Form) → IsPlace text 0
 wrong_event text line rest plain parts wrong =
-    inl (refl, λ event more fits same.
-    wrong event fits (line_apart line (codes "> " ++ line_of event) rest more plain (event_feedless event fits) (sym parts ∙ same ∙ event_rest event more)).0)
+    inl (
+      refl,
+      λ event more fits same.
+          wrong event fits (line_apart line (codes "> " ++ line_of event) rest more plain (event_feedless event fits) (sym parts ∙ same ∙ event_rest event more)).0,
+    )
 
 unended_further : (text : List ℕ) → has_line_feed text ≡ false → HasNoFurther text
 unended_further text none = (
@@ -78,9 +78,9 @@ unended_further text none = (
 wrong_further : (text line rest : List ℕ) → has_line_feed line ≡ false → text ≡ line ++ 10 ∷ rest → ReadsFurther line (Err faults.Form) → HasNoFurther text
 wrong_further text line rest plain parts wrong = (
   λ answer more fits same.
-  wrong.0 answer fits (line_apart line (answer_text answer) rest more plain (answer_feedless answer fits) (sym parts ∙ same ∙ line_rest (answer_text answer) more)).0,
+      wrong.0 answer fits (line_apart line (answer_text answer) rest more plain (answer_feedless answer fits) (sym parts ∙ same ∙ line_rest (answer_text answer) more)).0,
   λ tally more fits same.
-  wrong.1 tally fits (line_apart line (tally_text tally) rest more plain (tally_feedless tally fits) (sym parts ∙ same ∙ line_rest (tally_text tally) more)).0,
+      wrong.1 tally fits (line_apart line (tally_text tally) rest more plain (tally_feedless tally fits) (sym parts ∙ same ∙ line_rest (tally_text tally) more)).0,
 )
 
 cut_here : (old rest : List ℕ) (total place : ℕ) (all : List Answer) → AreAnswers old rest all → HasNoFurther rest → place ≡ total - length rest → IsCutBehind old total place

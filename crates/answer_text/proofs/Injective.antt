@@ -1,9 +1,7 @@
 -- No two groups have one text, and no group's text stands in front of another's.
-use Rattle.std.proofs.Common.{◌≡◌, ℕ, ◌<◌, ◌^◌, Bool, true, false, List, [], ◌∷◌, ◌++◌, map, length, decimal, codes, Option, Some, refl, sym, ap, ◌∙◌, arith}
+use Rattle.std.proofs.Common.{◌≡◌, ℕ, ◌<◌, ◌^◌, Bool, true, false, List, [], ◌∷◌, ◌++◌, decimal, codes, Some, refl, sym, ap, ◌∙◌}
 use Rattle.std.specs.List.{AllByRecursion, flat_map}
 use Rattle.std.proofs.lemmas.Fmt.{decimal_injective}
-use Rattle.std.proofs.lemmas.List.{append_assoc}
-use Rattle.blob_source.specs.Lines.{has_line_feed}
 use Rattle.blob_words.specs.declared.counted.Counted.{Counted}
 use Rattle.blob_words.specs.declared.counted.Counted.TheVariants as counts
 use Rattle.blob_words.specs.declared.number.PageNo.{PageNo}
@@ -11,14 +9,14 @@ use Rattle.blob_words.specs.declared.number.PieceNo.{PieceNo}
 use Rattle.blob_words.specs.declared.plan.Plan.{Plan}
 use Rattle.blob_words.specs.declared.plan.Plan.TheVariants as plans
 use Rattle.blob_words.specs.declared.tally.Tally.{Tally}
-use Rattle.session_script.specs.Line.{line_of, HasSpelling}
+use Rattle.session_script.specs.Line.{line_of}
 use Rattle.session_script.specs.Reading.{split}
 use Rattle.session_script.specs.Status.{switch_word}
 use Rattle.session_script.proofs.Injective.{line_injective, same_32, same_hex, same_job, same_name, same_reader, same_renderer}
 use Rattle.session_script.specs.declared.event.Event.{Event}
 use Rattle.session_script.proofs.Words.{look_up, same_status, some_same}
-use Rattle.answer_text.specs.Text.{refusal_word_of, refusal_fields, plan_fields, piece_fields, word_of, answer_fields, answer_text, tally_fields, tally_text, event_line, answer_line, tally_line, group_text, groups_text, RefusalHasText, PlanHasText, HasText, TallyHasText, GroupHasText}
-use Rattle.answer_text.specs.Word.{word_text, refusal_text, counted_fields}
+use Rattle.answer_text.specs.Text.{refusal_word_of, refusal_fields, plan_fields, piece_fields, word_of, answer_fields, answer_text, tally_fields, tally_text, answer_line, tally_line, group_text, groups_text, RefusalHasText, PlanHasText, HasText, TallyHasText, GroupHasText}
+use Rattle.answer_text.specs.Word.{word_text, counted_fields}
 use Rattle.answer_text.specs.declared.answer.Answer.{Answer}
 use Rattle.answer_text.specs.declared.answer.Answer.TheVariants as answers
 use Rattle.answer_text.specs.declared.group.Group.{Group}

@@ -1,12 +1,12 @@
 -- From the faults of lines to the texts that are refused.
-use Rattle.std.proofs.Common.{◌≡◌, ℕ, ◌⊎◌, ◌<◌, ◌≤◌, ◌^◌, decimal, List, [], ◌∷◌, ◌++◌, length, map, Result, Ok, Err, inl, inr, refl, sym, ap, ◌∙◌, subst, arith}
+use Rattle.std.proofs.Common.{◌≡◌, ℕ, ◌⊎◌, ◌<◌, ◌^◌, decimal, List, [], ◌∷◌, ◌++◌, length, inl, inr, refl, sym, ap, ◌∙◌, subst, arith}
 use Rattle.std.specs.List.{AllByRecursion}
 use Rattle.std.proofs.lemmas.List.{append_assoc, append-nil, length-append, length-map, map-append}
 use Rattle.blob_words.specs.declared.number.PieceNo.{PieceNo}
 use Rattle.session_script.specs.Kind.{Kind, Spells, number_32, AllSpell, IsFirstFault, IsRowFault}
 use Rattle.session_script.specs.declared.line_fault.LineFault.{LineFault}
 use Rattle.session_script.specs.declared.line_fault.LineFault.TheVariants as line_faults
-use Rattle.session_script.proofs.Lines.{first_no_fault, row_no_fault}
+use Rattle.session_script.proofs.Lines.{row_no_fault}
 use Rattle.session_script.proofs.Rows.{length_spelled}
 use Rattle.answer_text.specs.Fault.{form_of, ArePieces, IsJob, IsPaged, Refuses, HasFront}
 use Rattle.answer_text.specs.Text.{piece_fields, PiecesHaveText}

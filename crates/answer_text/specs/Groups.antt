@@ -1,5 +1,5 @@
 -- What a reader of groups says. Own.
-use Rattle.std.specs.Prelude.{ℕ, ◌≡◌, ◌≢◌, ◌⊎◌, ◌-◌, List, [], ◌∷◌, ◌++◌, codes, length, Result, Ok, Err}
+use Rattle.std.specs.Prelude.{ℕ, ◌≡◌, ◌≢◌, ◌⊎◌, ◌-◌, List, ◌++◌, codes, length, Result, Ok, Err}
 use Rattle.std.specs.List.{AllByRecursion, flat_map}
 use Rattle.blob_words.specs.declared.tally.Tally.{Tally}
 use Rattle.session_script.specs.Line.{line_of, HasSpelling}

@@ -1,4 +1,4 @@
-use Rattle.std.proofs.Common.{◌≡◌, ◌-◌, length, Err, sym, ap, ◌∙◌, subst, arith}
+use Rattle.std.proofs.Common.{◌-◌, length, Err, ap, ◌∙◌, subst}
 use Rattle.answer_text.specs.Groups.{ReadsFurther}
 use Rattle.answer_text.specs.declared.text_fault.TextFault.{TextFault}
 use Rattle.answer_text.proofs.GroupLemmas.{unended_cut, wrong_cut}

@@ -1,4 +1,4 @@
-use Rattle.std.proofs.Common.{◌≡◌, ◌-◌, ◌∷◌, ◌++◌, length, false, Ok, Err, sym, ap, ◌∙◌, subst, arith}
+use Rattle.std.proofs.Common.{◌≡◌, ◌-◌, length, false, Err, sym, ap, ◌∙◌, subst}
 use Rattle.blob_source.specs.Lines.{has_line_feed}
 use Rattle.answer_text.specs.Groups.{ReadsEventLine}
 use Rattle.answer_text.specs.declared.text_fault.TextFault.{TextFault}

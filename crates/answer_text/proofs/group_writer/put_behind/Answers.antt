@@ -1,4 +1,4 @@
-use Rattle.std.proofs.Common.{ap, Ok, Err}
+use Rattle.std.proofs.Common.{ap}
 use Rattle.std.specs.List.{flat_map}
 use Rattle.session_script.proofs.Outputs.{word_then, word_stops}
 use Rattle.answer_text.specs.Text.{answer_line}
