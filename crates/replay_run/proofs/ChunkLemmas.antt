@@ -10,8 +10,8 @@ use Rattle.std.proofs.lemmas.Simd.{map-map}
 use Rattle.blob_words.specs.declared.limits.Limits.{Limits}
 use Rattle.blob_words.specs.declared.status.Status.TheVariants as statuses
 use Rattle.blob_words.specs.declared.number.ReaderId.{ReaderId}
-use Rattle.replay_run.specs.declared.answer.Answer.TheVariants as answers
-use Rattle.replay_run.specs.declared.answer.Refusal.TheVariants as refusals
+use Rattle.answer_text.specs.declared.answer.Answer.TheVariants as answers
+use Rattle.answer_text.specs.declared.refusal.Refusal.TheVariants as refusals
 use Rattle.replay_run.specs.declared.store.Store.{Store}
 use Rattle.replay_run.specs.History.{History}
 use Rattle.replay_run.specs.Builds.{Build, builds, build_of, sent, cells, cells_of, size_of, value}

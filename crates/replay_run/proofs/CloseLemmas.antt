@@ -7,7 +7,7 @@ use Rattle.blob_words.specs.declared.limits.Limits.{Limits}
 use Rattle.blob_words.specs.declared.status.Status.{Status}
 use Rattle.blob_words.specs.declared.number.ReaderId.{ReaderId}
 use Rattle.session_script.specs.declared.event.Event.TheVariants as events
-use Rattle.replay_run.specs.declared.answer.Answer.TheVariants as answers
+use Rattle.answer_text.specs.declared.answer.Answer.TheVariants as answers
 use Rattle.replay_run.specs.declared.store.Store.{Store}
 use Rattle.replay_run.specs.declared.store.reader.Reader.{Reader}
 use Rattle.replay_run.specs.History.{History, heard}

@@ -5,7 +5,7 @@ use Rattle.std.proofs.lemmas.Bool.{cases_Bool, eqb-true, or_right, and_right}
 use Rattle.session_script.specs.declared.event.Event.TheVariants as events
 use Rattle.blob_words.specs.declared.limits.Limits.{Limits}
 use Rattle.blob_words.specs.declared.number.RendererId.{RendererId}
-use Rattle.replay_run.specs.declared.answer.Answer.TheVariants as answers
+use Rattle.answer_text.specs.declared.answer.Answer.TheVariants as answers
 use Rattle.replay_run.specs.declared.store.Store.{Store}
 use Rattle.replay_run.specs.declared.store.blob.Blob.{Blob}
 use Rattle.replay_run.specs.declared.store.reader.Reader.{Reader}

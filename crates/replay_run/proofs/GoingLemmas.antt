@@ -1,7 +1,7 @@
 -- The lines of a session, one after the other.
 use Rattle.std.proofs.Common.{◌≡◌, ℕ, ◌+◌, ◌^◌, ◌-◌, ◌<◌, ◌≤◌, false, List, [], ◌∷◌, ◌++◌, length, Option, None, Some, IfSome, Result, Ok, Err, IfErr, inl, inr, ⊎_elim, refl, sym, ◌∙◌, ap, subst, arith, append-nil, length-append}
 use Rattle.std.specs.List.{AllByRecursion}
-use Rattle.std.specs.Io.KnownBytes.{Appends, Consumes, IsAtEnd}
+use Rattle.std.specs.Io.KnownBytes.{Appends, Consumes}
 use Rattle.std.proofs.KnownBytes.{Appends-trans, Consumes-trans}
 use Rattle.std.proofs.lemmas.List.{map-append}
 use Rattle.std.proofs.lemmas.List.Concat.{flat_map-append}
@@ -12,15 +12,17 @@ use Rattle.blob_source.specs.Faults.{Rose}
 use Rattle.replay_run.specs.declared.ending.Ending.{Ending}
 use Rattle.replay_run.specs.declared.ending.Ending.TheVariants.{Finished, Refused, NoMemory, SourceFailed, SinkFailed, Stopped}
 use Rattle.replay_run.specs.declared.turn.Turn.TheVariants.{Over}
-use Rattle.replay_run.specs.declared.group.Group.{Group}
+use Rattle.answer_text.specs.declared.group.Group.{Group}
 use Rattle.replay_run.specs.declared.store.Store.{Store}
 use Rattle.replay_run.specs.History.{History, start, after, history_from, has_ended}
 use Rattle.replay_run.specs.Legal.{opening, IsLegalGroup, IsLegalFrom}
-use Rattle.replay_run.specs.Text.{group_text, print, refusal_line}
-use Rattle.replay_run.specs.Reads.{IsLineOf, events_of, spelled}
-use Rattle.replay_run.specs.Run.{IsLeft, IsLast, HasCause}
+use Rattle.answer_text.specs.Text.{group_text, groups_text}
+use Rattle.replay_run.specs.declared.reason.Reason.{Reason}
+use Rattle.replay_run.specs.Text.{refusal_line, IsProperPrefix}
+use Rattle.replay_run.specs.Reads.{IsLineOf, IsRefused, events_of, spelled}
+use Rattle.replay_run.specs.Run.{IsLeft, IsNext, IsCut, IsLast, HasCause}
 use Rattle.replay_run.specs.Stands.{Rests}
-use Rattle.replay_run.specs.Turns.{IsTaken, Turned, EndsPast, Going, AreTaken}
+use Rattle.replay_run.specs.Turns.{IsTaken, Turned, EndsAt, IsNone, IsOutAt, IsOutPast, Going, AreTaken}
 
 -- ---- one more group
 
@@ -42,8 +44,8 @@ spelled-more groups group =
     ∙ flat_map-append (λ (event : Event). line_of event ++ 10 ∷ []) (events_of groups) (group.event ∷ [])
     ∙ ap (λ rest. spelled (events_of groups) ++ rest) (append-nil (line_of group.event ++ 10 ∷ []))
 
-print-more : (groups : List Group) (group : Group) → print (groups ++ group ∷ []) ≡ print groups ++ group_text group
-print-more groups group = flat_map-append group_text groups (group ∷ []) ∙ ap (λ rest. print groups ++ rest) (append-nil (group_text group))
+text-more : (groups : List Group) (group : Group) → groups_text (groups ++ group ∷ []) ≡ groups_text groups ++ group_text group
+text-more groups group = flat_map-append group_text groups (group ∷ []) ∙ ap (λ rest. groups_text groups ++ rest) (append-nil (group_text group))
 
 pub if_some : {X : Type 0} {P : X → Type 0} (o : Option X) → ((x : X) → P x) → IfSome o P
 if_some None each = tt
@@ -53,9 +55,12 @@ pub if_some_by : {X : Type 0} {P Q : X → Type 0} (o : Option X) → IfSome o P
 if_some_by None is each = tt
 if_some_by (Some x) is each = each x is
 
-pub at_end : {P : List ℕ → Type 0} (o : Option (List ℕ)) → IsAtEnd o → ((xs : List ℕ) → xs ≡ [] → P xs) → IfSome o P
-at_end None is each = tt
-at_end (Some xs) is each = each xs is
+-- what is cut off, said of other groups and words
+pub cut_as : (Next Next' : Group → Type 0) (Out Out' : Reason → List ℕ → Type 0) (number number' : ℕ) (unread : Option (List ℕ)) (part : List ℕ) → number ≡ number' → ((group : Group) → Next group → Next' group)
+    → ((reason : Reason) (bytes : List ℕ) → Out reason bytes → Out' reason bytes) → IsCut Next Out number unread part → IsCut Next' Out' number' unread part
+cut_as Next Next' Out Out' number number' unread part same next out (inl (group, is, line, begins, prefix)) = inl (group, next group is, line, begins, prefix)
+cut_as Next Next' Out Out' number number' unread part same next out (inr (reason, is, prefix)) =
+    inr (reason, if_some_by unread is (out reason), subst (λ (n : ℕ). IsProperPrefix part (refusal_line n reason)) same prefix)
 
 module _ (l : Limits) (unread0 unread unread' held0 held held' : Option (List ℕ)) (s s' : Store) (number : ℕ) (going : Going l unread0 unread held0 held s number) where
   abbrev so_far : History
@@ -70,8 +75,8 @@ module _ (l : Limits) (unread0 unread unread' held0 held held' : Option (List �
         subst (Consumes unread0 unread') (sym (spelled-more going.groups taken.group))
         (Consumes-trans unread0 unread unread' (spelled (events_of going.groups)) (line_of taken.group.event ++ 10 ∷ []) going.read taken.consumed)
 
-    written' : Appends held0 held' (print groups')
-    written' = subst (Appends held0 held') (sym (print-more going.groups taken.group)) (Appends-trans held0 held held' (print going.groups) (group_text taken.group) going.written taken.appended)
+    written' : Appends held0 held' (groups_text groups')
+    written' = subst (Appends held0 held') (sym (text-more going.groups taken.group)) (Appends-trans held0 held held' (groups_text going.groups) (group_text taken.group) going.written taken.appended)
 
     now : history_from start groups' ≡ after so_far taken.group.event taken.group.answers
     now = history-more start going.groups taken.group
@@ -90,32 +95,43 @@ module _ (l : Limits) (unread0 unread unread' held0 held held' : Option (List �
       written = written';
     }
 
-  -- what the rest of the session is
-  left_of : (groups : List Group) (end : Option (List ℕ)) (ending : Ending) → Consumes unread0 end (spelled (events_of groups)) → IfSome end (IsLeft ending (opening l ∷ groups))
-      → IfSome unread0 (λ (bytes : List ℕ). (rest : List ℕ) × (bytes ≡ spelled (events_of groups) ++ rest) × IsLeft ending (opening l ∷ groups) rest)
-  left_of groups end ending consumed left = rest_of unread0 end consumed left
-    where
-      rest_of : (a b : Option (List ℕ)) → Consumes a b (spelled (events_of groups)) → IfSome b (IsLeft ending (opening l ∷ groups))
-          → IfSome a (λ (bytes : List ℕ). (rest : List ℕ) × (bytes ≡ spelled (events_of groups) ++ rest) × IsLeft ending (opening l ∷ groups) rest)
-      rest_of None b consumed left = tt
-      rest_of (Some bytes) None consumed left = absurd consumed
-      rest_of (Some bytes) (Some rest) consumed left = (rest, consumed, left)
-
   module _ (source source' sink sink' : ℕ) where
     -- no group was taken
-    stopped : (ending : Ending) → HasCause ending source source' sink sink' → IfSome unread (IsLeft ending (opening l ∷ going.groups)) → (last : List ℕ) → Appends held held' last → IsLast ending last → number ≤ 2 ^ 20 + 1
-        → AreTaken l unread0 held0 held' source source' sink sink' ending
+    stopped : (ending : Ending) → HasCause ending source source' sink sink' → IsLeft ending (opening l ∷ going.groups) unread → (last : List ℕ) → Appends held held' last → IsLast ending (opening l ∷ going.groups) unread last
+        → number ≤ 2 ^ 20 + 1 → AreTaken l unread0 held0 held' source source' sink sink' ending
     stopped ending cause left last appended is_last few = record {
       groups = going.groups;
       legal = going.legal;
       lines = going.lines;
       few = omega (arith, going.count);
-      read = left_of going.groups unread ending going.read left;
+      unread' = unread;
+      read = going.read;
+      left = left;
       last = last;
-      written = Appends-trans held0 held held' (print going.groups) last going.written appended;
+      written = Appends-trans held0 held held' (groups_text going.groups) last going.written appended;
       is_last = is_last;
       cause = cause;
     }
+
+    ended : (Next : Group → Type 0) (IsOut : Reason → List ℕ → Type 0) → ((group : Group) → Next group → IsNext (opening l ∷ going.groups) group)
+        → ((reason : Reason) (bytes : List ℕ) → IsOut reason bytes → IsRefused (opening l ∷ going.groups) reason bytes) → number ≤ 2 ^ 20 + 1
+        → (ending : Ending) → HasCause ending source source' sink sink' → EndsAt Next IsOut number unread held held' ending → AreTaken l unread0 held0 held' source source' sink sink' ending
+    ended Next IsOut next out few Finished cause ends = absurd ends
+    ended Next IsOut next out few (Refused n reason) cause ends =
+        stopped (Refused n reason) cause (going.rests.open_still, ends.0 ∙ omega (arith, going.count), if_some_by unread ends.1 (out reason)) (refusal_line n reason)
+        (subst (λ (k : ℕ). Appends held held' (refusal_line k reason)) (sym ends.0) ends.2) refl few
+    ended Next IsOut next out few NoMemory cause ends = stopped NoMemory cause tt [] ends refl few
+    ended Next IsOut next out few SourceFailed cause ends = stopped SourceFailed cause tt [] ends refl few
+    ended Next IsOut next out few SinkFailed cause ends =
+        stopped SinkFailed cause going.rests.open_still ends.0 ends.1
+        (cut_as Next (IsNext (opening l ∷ going.groups)) IsOut (IsRefused (opening l ∷ going.groups)) number (length (opening l ∷ going.groups) + 1) unread ends.0 (omega (arith, going.count)) next out ends.2) few
+    ended Next IsOut next out few Stopped cause ends = stopped Stopped cause (going.rests.open_still, ends.0) [] ends.1 refl few
+
+    next_legal : number ≤ 2 ^ 20 → (group : Group) → IsLegalGroup l so_far group → IsNext (opening l ∷ going.groups) group
+    next_legal few group legal = ((l, refl, legal-more l start going.groups group going.legal legal), omega (arith, going.count))
+
+    out_behind : number ≤ 2 ^ 20 → (reason : Reason) (bytes : List ℕ) → IsOutAt l so_far reason bytes → IsRefused (opening l ∷ going.groups) reason bytes
+    out_behind few reason bytes out = inr (omega (arith, going.count), out)
 
     -- a line ended the session
     pub going-over : number ≤ 2 ^ 20 → (ending : Ending) → HasCause ending source source' sink sink' → Turned l so_far number unread unread' held held' s' (Over ending)
@@ -128,38 +144,26 @@ module _ (l : Limits) (unread0 unread unread' held0 held held' : Option (List �
           legal = legal-more l start going.groups taken.group going.legal taken.legal;
           lines = lines-more going.groups taken.group going.lines taken.line;
           few = omega (arith, going.count, count' taken);
-          read = left_of groups unread' Finished (read' taken) (if_some unread' (λ rest. ap has_ended (now taken) ∙ turned.1));
+          unread' = unread';
+          read = read' taken;
+          left = ap has_ended (now taken) ∙ turned.1;
           last = [];
-          written = subst (Appends held0 held') (sym (append-nil (print groups))) (written' taken);
+          written = subst (Appends held0 held') (sym (append-nil (groups_text groups))) (written' taken);
           is_last = refl;
           cause = cause;
         }
-    going-over few (Refused n) cause turned = record {
-      groups = going.groups;
-      legal = going.legal;
-      lines = going.lines;
-      few = omega (arith, going.count);
-      read = left_of going.groups unread (Refused n) going.read (if_some_by unread turned.1 (λ rest out. (going.rests.open_still, turned.0 ∙ omega (arith, going.count), (out.0, inr out.1))));
-      last = refusal_line n;
-      written = Appends-trans held0 held held' (print going.groups) (refusal_line n) going.written (subst (λ (k : ℕ). Appends held held' (refusal_line k)) (sym turned.0) turned.2);
-      is_last = refl;
-      cause = cause;
-    }
-    going-over few NoMemory cause turned = stopped NoMemory cause (if_some unread (λ rest. tt)) [] turned refl (omega arith)
-    going-over few SourceFailed cause turned = stopped SourceFailed cause (if_some unread (λ rest. tt)) [] turned refl (omega arith)
-    going-over few SinkFailed cause turned = stopped SinkFailed cause (if_some unread (λ rest. tt)) turned.0 turned.1 tt (omega arith)
-    going-over few Stopped cause turned = stopped Stopped cause (at_end unread turned.0 (λ rest none. (going.rests.open_still, none))) [] turned.1 refl (omega arith)
+    going-over few (Refused n reason) cause turned = ended (IsLegalGroup l so_far) (IsOutAt l so_far) (next_legal few) (out_behind few) (omega arith) (Refused n reason) cause turned
+    going-over few NoMemory cause turned = ended (IsLegalGroup l so_far) (IsOutAt l so_far) (next_legal few) (out_behind few) (omega arith) NoMemory cause turned
+    going-over few SourceFailed cause turned = ended (IsLegalGroup l so_far) (IsOutAt l so_far) (next_legal few) (out_behind few) (omega arith) SourceFailed cause turned
+    going-over few SinkFailed cause turned = ended (IsLegalGroup l so_far) (IsOutAt l so_far) (next_legal few) (out_behind few) (omega arith) SinkFailed cause turned
+    going-over few Stopped cause turned = ended (IsLegalGroup l so_far) (IsOutAt l so_far) (next_legal few) (out_behind few) (omega arith) Stopped cause turned
 
     -- the session ended behind the greatest number of lines
-    pub going-past : number ≡ 2 ^ 20 + 1 → (ending : Ending) → HasCause ending source source' sink sink' → EndsPast unread held held' ending → AreTaken l unread0 held0 held' source source' sink sink' ending
-    going-past last_number Finished cause ends = absurd ends
-    going-past last_number (Refused n) cause ends = stopped (Refused n) cause
-        (if_some_by unread ends.1 (λ rest some. (going.rests.open_still, ends.0 ∙ omega (arith, going.count, last_number), (some, inl (omega (arith, going.count, last_number)))))) (refusal_line n)
-        (subst (λ (k : ℕ). Appends held held' (refusal_line k)) (sym ends.0) ends.2) refl (omega (arith, last_number))
-    going-past last_number NoMemory cause ends = stopped NoMemory cause (if_some unread (λ rest. tt)) [] ends refl (omega (arith, last_number))
-    going-past last_number SourceFailed cause ends = stopped SourceFailed cause (if_some unread (λ rest. tt)) [] ends refl (omega (arith, last_number))
-    going-past last_number SinkFailed cause ends = stopped SinkFailed cause (if_some unread (λ rest. tt)) ends.0 ends.1 tt (omega (arith, last_number))
-    going-past last_number Stopped cause ends = stopped Stopped cause (at_end unread ends.0 (λ rest none. (going.rests.open_still, none))) [] ends.1 refl (omega (arith, last_number))
+    pub going-past : number ≡ 2 ^ 20 + 1 → (ending : Ending) → HasCause ending source source' sink sink' → EndsAt IsNone IsOutPast (2 ^ 20 + 1) unread held held' ending
+        → AreTaken l unread0 held0 held' source source' sink sink' ending
+    going-past last_number ending cause ends =
+        ended IsNone IsOutPast (λ group none. absurd none) (λ reason bytes out. inl (omega (arith, going.count, last_number), out.0, out.1)) (omega (arith, last_number)) ending cause
+        (subst (λ (n : ℕ). EndsAt IsNone IsOutPast n unread held held' ending) (sym last_number) ends)
 
 -- a later rise is a rise since before
 pub Rose-earlier : (a b c : ℕ) → a ≤ b → Rose b c → Rose a c
@@ -167,7 +171,7 @@ Rose-earlier a b c later rose = ⊎_elim (λ (more : b < c). inl (omega arith)) 
 
 pub HasCause-earlier : (ending : Ending) (a b c d e f : ℕ) → a ≤ b → d ≤ e → HasCause ending b c e f → HasCause ending a c d f
 HasCause-earlier Finished a b c d e f source sink cause = tt
-HasCause-earlier (Refused n) a b c d e f source sink cause = tt
+HasCause-earlier (Refused n reason) a b c d e f source sink cause = tt
 HasCause-earlier NoMemory a b c d e f source sink cause = tt
 HasCause-earlier SourceFailed a b c d e f source sink cause = Rose-earlier a b c source cause
 HasCause-earlier SinkFailed a b c d e f source sink cause = Rose-earlier d e f sink cause

@@ -15,7 +15,7 @@ use Rattle.blob_words.specs.declared.limits.Limits.{Limits}
 use Rattle.blob_words.specs.declared.plan.Plan.{Plan}
 use Rattle.blob_words.specs.declared.number.RendererId.{RendererId}
 use Rattle.indexmap.specs.IndexSet.{IndexSet}
-use Rattle.replay_run.specs.declared.answer.Answer.TheVariants as answers
+use Rattle.answer_text.specs.declared.answer.Answer.TheVariants as answers
 use Rattle.replay_run.specs.declared.store.Store.{Store}
 use Rattle.replay_run.specs.History.{History, heard}
 use Rattle.replay_run.specs.Builds.{Build, builds, is_built, sent, part_bytes, cells, size_of}

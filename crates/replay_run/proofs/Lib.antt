@@ -13,7 +13,6 @@ pub mod StepLemmas
 pub mod CloseLemmas
 pub mod ChunkLemmas
 pub mod ApplyLemmas
-pub mod PrintLemmas
 pub mod TurnLemmas
 pub mod GoingLemmas
 pub mod OpeningLemmas

@@ -7,8 +7,8 @@ use Rattle.session_script.specs.declared.event.Part.{Part}
 use Rattle.blob_words.specs.declared.limits.Limits.{Limits}
 use Rattle.blob_words.specs.declared.number.ReaderId.{ReaderId}
 use Rattle.blob_words.specs.declared.number.RendererId.{RendererId}
-use Rattle.replay_run.specs.declared.answer.Answer.TheVariants as answers
-use Rattle.replay_run.specs.declared.answer.Refusal.TheVariants as refusals
+use Rattle.answer_text.specs.declared.answer.Answer.TheVariants as answers
+use Rattle.answer_text.specs.declared.refusal.Refusal.TheVariants as refusals
 use Rattle.replay_run.specs.History.{History}
 use Rattle.replay_run.specs.Builds.{builds, is_built, part_bytes, size_of}
 use Rattle.replay_run.specs.Readers.{readers, range_end}

@@ -1,7 +1,7 @@
 -- What a legal transcript that begins with the limits of the worked session says of the groups behind them.
 use Rattle.std.proofs.Common.{◌≡◌, List, ◌∷◌, Some, ap, sym, subst}
 use Rattle.blob_words.specs.declared.limits.Limits.{Limits}
-use Rattle.replay_run.specs.declared.group.Group.{Group}
+use Rattle.answer_text.specs.declared.group.Group.{Group}
 use Rattle.replay_run.specs.History.{start}
 use Rattle.replay_run.specs.Legal.{opening, IsLegal, IsLegalFrom}
 use Rattle.replay_run.specs.Reads.{limits_of}

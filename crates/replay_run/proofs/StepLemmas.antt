@@ -7,7 +7,7 @@ use Rattle.session_script.specs.declared.event.Event.TheVariants as events
 use Rattle.blob_words.specs.declared.limits.Limits.{Limits}
 use Rattle.blob_words.specs.declared.status.Status.{Status}
 use Rattle.blob_words.specs.declared.number.ReaderId.{ReaderId}
-use Rattle.replay_run.specs.declared.answer.Answer.TheVariants as answers
+use Rattle.answer_text.specs.declared.answer.Answer.TheVariants as answers
 use Rattle.replay_run.specs.declared.store.Store.{Store}
 use Rattle.replay_run.specs.declared.store.blob.Blob.{Blob}
 use Rattle.replay_run.specs.declared.store.reader.Reader.{Reader}

@@ -1,126 +1,121 @@
 -- What a line that is read, or is not, says of the session.
-use Rattle.std.proofs.Common.{◌≡◌, ◌≢◌, ℕ, ◌+◌, ◌^◌, ◌<◌, ◌==◌, true, false, List, [], ◌∷◌, ◌++◌, length, Option, None, Some, IfSome, inl, inr, refl, sym, ◌∙◌, ap, arith, append_assoc, length-append}
-use Rattle.std.specs.Io.KnownBytes.{Consumes}
-use Rattle.std.proofs.lemmas.Bool.{both_ways, or_left, or_right, or_parts, eq-eqb}
+use Rattle.std.proofs.Common.{◌≡◌, ◌≢◌, ◌⊎◌, ℕ, ◌+◌, ◌^◌, ◌<◌, ◌≤◌, true, false, List, [], ◌∷◌, ◌++◌, length, Option, None, Some, IfSome, inl, inr, refl, sym, ◌∙◌, ap, subst, arith, append_assoc, length-append}
+use Rattle.std.specs.Io.KnownBytes.{Appends, Consumes}
+use Rattle.answer_text.specs.declared.group.Group.{Group}
 use Rattle.session_script.specs.declared.event.Event.{Event}
 use Rattle.session_script.specs.declared.event.Event.TheVariants as events
-use Rattle.session_script.specs.Line.{line_of, HasSpelling}
-use Rattle.session_script.proofs.Visible.{line_of-feedless}
+use Rattle.session_script.specs.declared.line_fault.LineFault.{LineFault}
+use Rattle.session_script.specs.declared.line_fault.LineFault.TheVariants as faults
+use Rattle.session_script.specs.Fault.{IsLineFault}
+use Rattle.session_script.specs.Line.{line_of}
 use Rattle.blob_words.specs.declared.limits.Limits.{Limits}
 use Rattle.blob_source.specs.Lines.{has_line_feed}
 use Rattle.replay_run.specs.declared.ending.Ending.{Ending}
 use Rattle.replay_run.specs.declared.ending.Ending.TheVariants.{Finished, Refused, NoMemory, SourceFailed, SinkFailed, Stopped}
+use Rattle.replay_run.specs.declared.reason.Reason.{Reason}
+use Rattle.replay_run.specs.declared.reason.Reason.TheVariants as reasons
 use Rattle.replay_run.specs.declared.turn.Turn.TheVariants.{Over}
 use Rattle.replay_run.specs.declared.store.Store.{Store}
 use Rattle.replay_run.specs.History.{History}
-use Rattle.replay_run.specs.Own.{own}
-use Rattle.replay_run.specs.Puts.{IsRefusal}
-use Rattle.replay_run.specs.Reads.{IsLineOf, limits_of}
-use Rattle.replay_run.specs.Turns.{IsRefusedBy, EndsAt, EndsPast, Turned}
+use Rattle.replay_run.specs.Legal.{IsLegalGroup}
+use Rattle.replay_run.specs.Puts.{IsFaultRefusal, IsRefusal}
+use Rattle.replay_run.specs.Reads.{IsLineOf, BeginsWith, BeginsWithFault, IsBad, limits_of}
+use Rattle.replay_run.specs.Reason.{reason_of}
+use Rattle.replay_run.specs.Text.{refusal_line}
+use Rattle.replay_run.specs.Turns.{EndsAt, IsOutAt, IsOutPast, Turned}
 
--- ---- lines and line feeds
+-- ---- what begins a session
 
--- a line that ends within bytes without a line feed is none
-pub short_front : (event line rest more : List ℕ) → length event < length line → line ++ rest ≡ event ++ 10 ∷ more → has_line_feed line ≡ true
-short_front event [] rest more short same = absurd (omega arith)
-short_front [] (c ∷ line) rest more short same =
-    let feed : c ≡ 10 = cc in
-    or_left (c == 10) (has_line_feed line) (eq-eqb c 10 feed)
-short_front (b ∷ event) (c ∷ line) rest more short same =
-    let tails : line ++ rest ≡ event ++ 10 ∷ more = cc in
-    or_right (c == 10) (has_line_feed line) (short_front event line rest more (omega arith) tails)
-
--- two lines without line feeds that stand at one place are one
-pub same_line : (event line rest more : List ℕ) → has_line_feed event ≡ false → has_line_feed line ≡ false → line ++ 10 ∷ rest ≡ event ++ 10 ∷ more → line ≡ event
-same_line [] [] rest more plain clear same = refl
-same_line [] (c ∷ line) rest more plain clear same =
-    let feed : c ≡ 10 = cc in
-    absurd (both_ways (c == 10) (or_parts (c == 10) (has_line_feed line) clear).0 (eq-eqb c 10 feed))
-same_line (b ∷ event) [] rest more plain clear same =
-    let feed : b ≡ 10 = cc in
-    absurd (both_ways (b == 10) (or_parts (b == 10) (has_line_feed event) plain).0 (eq-eqb b 10 feed))
-same_line (b ∷ event) (c ∷ line) rest more plain clear same =
-    let heads : c ≡ b = cc in
-    let tails : line ++ 10 ∷ rest ≡ event ++ 10 ∷ more = cc in
-    let rests = same_line event line rest more (or_parts (b == 10) (has_line_feed event) plain).1 (or_parts (c == 10) (has_line_feed line) clear).1 tails in
-    cc
-
-something : (line rest : List ℕ) → line ++ 10 ∷ rest ≢ []
-something [] rest none = cc
-something (c ∷ line) rest none = cc
-
--- ---- what is refused
-
--- a line that spells no event
-pub refused-line : (IsOut : Event → Type 0) (unread unread' : Option (List ℕ)) (line : List ℕ) → Consumes unread unread' (line ++ 10 ∷ []) → has_line_feed line ≡ false
-    → ((event : Event) → HasSpelling event → line ≡ line_of event → ⊥) → IfSome unread (IsRefusedBy IsOut)
-refused-line IsOut None unread' line taken clear spelled = tt
-refused-line IsOut (Some bytes) None line taken clear spelled = absurd taken
-refused-line IsOut (Some bytes) (Some rest) line taken clear spelled =
-    let stands : bytes ≡ line ++ 10 ∷ rest = taken ∙ append_assoc line (10 ∷ []) rest in (
-      λ none. something line rest (sym stands ∙ none),
-      inl (λ event is begins. spelled event is.0 (same_line (line_of event) line rest begins.0 (line_of-feedless event is.0) clear (sym stands ∙ begins.1))),
-    )
+pub begins : (unread unread' : Option (List ℕ)) (line : List ℕ) → Consumes unread unread' (line ++ 10 ∷ []) → IfSome unread (λ bytes. BeginsWith bytes line)
+begins None unread' line taken = tt
+begins (Some bytes) None line taken = absurd taken
+begins (Some bytes) (Some rest) line taken = (rest, taken ∙ append_assoc line (10 ∷ []) rest)
 
 -- a line that is too long
-pub refused-long : (IsOut : Event → Type 0) (unread unread' : Option (List ℕ)) (line : List ℕ) → Consumes unread unread' line → has_line_feed line ≡ false → length line ≡ 2 ^ 20 + 1 → IfSome unread (IsRefusedBy IsOut)
-refused-long IsOut None unread' line taken clear long = tt
-refused-long IsOut (Some bytes) None line taken clear long = absurd taken
-refused-long IsOut (Some bytes) (Some rest) line taken clear long = (
-  λ none. let size = ap length (sym taken ∙ none) in absurd (omega (arith, size, length-append line rest, long)),
-  inl (λ event is begins. both_ways (has_line_feed line) clear (short_front (line_of event) line rest begins.0 (omega (arith, is.1, long)) (sym taken ∙ begins.1))),
-)
+pub bad-long : (F U : Event → Type 0) (unread unread' : Option (List ℕ)) (line : List ℕ) → Consumes unread unread' line → length line ≡ 2 ^ 20 + 1 → has_line_feed line ≡ false
+    → IfSome unread (IsBad F U reasons.Long)
+bad-long F U None unread' line taken long clear = tt
+bad-long F U (Some bytes) None line taken long clear = absurd taken
+bad-long F U (Some bytes) (Some rest) line taken long clear = (line, rest, taken, long, clear)
 
-module _ (l : Limits) (h : History) (number : ℕ) (unread unread' held held' : Option (List ℕ)) (s : Store) where
-  -- a refusal of the line ends the session
-  pub turned-refused : (ending : Ending) → IfSome unread (IsRefusedBy (λ event. own l h event ≡ None)) → IsRefusal number held held' ending → Turned l h number unread unread' held held' s (Over ending)
-  turned-refused Finished out written = absurd written
-  turned-refused (Refused n) out written = (written.0, out, written.1)
-  turned-refused NoMemory out written = written
-  turned-refused SourceFailed out written = absurd written
-  turned-refused SinkFailed out written = written
-  turned-refused Stopped out written = absurd written
+-- a line without its feed
+pub bad-unended : (F U : Event → Type 0) (unread : Option (List ℕ)) (line : List ℕ) → IfSome unread (λ bytes. bytes ≡ line) → 0 < length line → length line ≤ 2 ^ 20 → has_line_feed line ≡ false
+    → IfSome unread (IsBad F U reasons.Unended)
+bad-unended F U None line taken some short clear = tt
+bad-unended F U (Some bytes) line taken some short clear = subst (λ (text : List ℕ). IsBad F U reasons.Unended text) (sym taken) (some, short, clear)
 
-pub ends-refused : (IsOut : Event → Type 0) (number : ℕ) (unread held held' : Option (List ℕ)) (ending : Ending) → IfSome unread (IsRefusedBy IsOut) → IsRefusal number held held' ending
-    → EndsAt IsOut number unread held held' ending
-ends-refused IsOut number unread held held' Finished out written = absurd written
-ends-refused IsOut number unread held held' (Refused n) out written = (written.0, out, written.1)
-ends-refused IsOut number unread held held' NoMemory out written = written
-ends-refused IsOut number unread held held' SourceFailed out written = absurd written
-ends-refused IsOut number unread held held' SinkFailed out written = written
-ends-refused IsOut number unread held held' Stopped out written = absurd written
+-- a line with a fault has the fault's word
+some_is : {X : Type 0} {x y : X} → Some x ≡ Some y → x ≡ y
+some_is same = cc
 
--- a line that spells an event that isn't built
-pub refused-other : (IsOut : Event → Type 0) (unread unread' : Option (List ℕ)) (line : List ℕ) (event : Event) → Consumes unread unread' (line ++ 10 ∷ []) → IsLineOf event → line ≡ line_of event → IsOut event
-    → IfSome unread (IsRefusedBy IsOut)
-refused-other IsOut None unread' line event taken is spelled out = tt
-refused-other IsOut (Some bytes) None line event taken is spelled out = absurd taken
-refused-other IsOut (Some bytes) (Some rest) line event taken is spelled out =
-    let stands : bytes ≡ line ++ 10 ∷ rest = taken ∙ append_assoc line (10 ∷ []) rest in (
-      λ none. something line rest (sym stands ∙ none),
-      inr (event, is, (rest, stands ∙ ap (λ text. text ++ 10 ∷ rest) spelled), out),
-    )
+pub fault_word : (F U : Event → Type 0) (bytes : List ℕ) (fault : LineFault) (reason : Reason) → reason_of fault ≡ Some reason → BeginsWithFault fault bytes → IsBad F U reason bytes
+fault_word F U bytes faults.Word reason is begins = subst (λ (word : Reason). IsBad F U word bytes) (some_is is) begins
+fault_word F U bytes faults.Fields reason is begins = subst (λ (word : Reason). IsBad F U word bytes) (some_is is) begins
+fault_word F U bytes faults.Number reason is begins = subst (λ (word : Reason). IsBad F U word bytes) (some_is is) begins
+fault_word F U bytes faults.Hex reason is begins = subst (λ (word : Reason). IsBad F U word bytes) (some_is is) begins
+fault_word F U bytes faults.Name reason is begins = subst (λ (word : Reason). IsBad F U word bytes) (some_is is) begins
+fault_word F U bytes faults.«Type» reason is begins = subst (λ (word : Reason). IsBad F U word bytes) (some_is is) begins
+fault_word F U bytes faults.Limits reason is begins = subst (λ (word : Reason). IsBad F U word bytes) (some_is is) begins
+fault_word F U bytes faults.Memory reason is begins = cc
+
+-- what a faulty line says of the session
+faulty : (fault : LineFault) (reason : Reason) (line : List ℕ) → reason_of fault ≡ Some reason → (fault ≡ faults.Memory) ⊎ IsLineFault fault line → IsLineFault fault line
+faulty fault reason line is (inl memory) = let none : None ≡ Some reason = sym (ap reason_of memory) ∙ is in cc
+faulty fault reason line is (inr fails) = fails
+
+pub bad-fault : (F U : Event → Type 0) (unread unread' : Option (List ℕ)) (line : List ℕ) (fault : LineFault) (reason : Reason) → reason_of fault ≡ Some reason → Consumes unread unread' (line ++ 10 ∷ [])
+    → length line ≤ 2 ^ 20 → has_line_feed line ≡ false → (fault ≡ faults.Memory) ⊎ IsLineFault fault line → IfSome unread (IsBad F U reason)
+bad-fault F U None unread' line fault reason is taken short clear fails = tt
+bad-fault F U (Some bytes) None line fault reason is taken short clear fails = absurd taken
+bad-fault F U (Some bytes) (Some rest) line fault reason is taken short clear fails =
+    fault_word F U bytes fault reason is (line, short, clear, begins (Some bytes) (Some rest) line taken, faulty fault reason line is fails)
+
+-- a line that spells an event of which P is said
+pub with_event : (P : Event → Type 0) (unread unread' : Option (List ℕ)) (line : List ℕ) (event : Event) → Consumes unread unread' (line ++ 10 ∷ []) → IsLineOf event → line ≡ line_of event → P event
+    → IfSome unread (λ bytes. (one : Event) × IsLineOf one × BeginsWith bytes (line_of one) × P one)
+with_event P None unread' line event taken is spelled out = tt
+with_event P (Some bytes) None line event taken is spelled out = absurd taken
+with_event P (Some bytes) (Some rest) line event taken is spelled out =
+    (event, is, (rest, taken ∙ append_assoc line (10 ∷ []) rest ∙ ap (λ text. text ++ 10 ∷ rest) spelled), out)
+
+-- ---- how a session ends at a line
+
+module _ (Next : Group → Type 0) (IsOut : Reason → List ℕ → Type 0) (number : ℕ) (unread held held' : Option (List ℕ)) where
+  pub ends-refused : (reason : Reason) (ending : Ending) → IfSome unread (IsOut reason) → IsRefusal number reason held held' ending → EndsAt Next IsOut number unread held held' ending
+  ends-refused reason Finished out written = absurd written
+  ends-refused reason (Refused n why) out written =
+      (written.0, subst (λ (word : Reason). IfSome unread (IsOut word)) (sym written.1) out, subst (λ (word : Reason). Appends held held' (refusal_line number word)) (sym written.1) written.2)
+  ends-refused reason NoMemory out written = absurd written
+  ends-refused reason SourceFailed out written = absurd written
+  ends-refused reason SinkFailed out written = (written.0, written.1, inr (reason, out, written.2))
+  ends-refused reason Stopped out written = absurd written
+
+  pub ends-fault : (why : Option Reason) (ending : Ending) → ((reason : Reason) → why ≡ Some reason → IfSome unread (IsOut reason)) → IsFaultRefusal number why held held' ending → EndsAt Next IsOut number unread held held' ending
+  ends-fault None ending out written = subst (λ (e : Ending). EndsAt Next IsOut number unread held held' e) (sym written.0) written.1
+  ends-fault (Some reason) ending out written = ends-refused reason ending (out reason refl) written
+
+-- the same behind the first line
+pub turned-ends : (l : Limits) (h : History) (number : ℕ) (unread unread' held held' : Option (List ℕ)) (s : Store) (ending : Ending)
+    → EndsAt (IsLegalGroup l h) (IsOutAt l h) number unread held held' ending → Turned l h number unread unread' held held' s (Over ending)
+turned-ends l h number unread unread' held held' s Finished ends = absurd ends
+turned-ends l h number unread unread' held held' s (Refused n reason) ends = ends
+turned-ends l h number unread unread' held held' s NoMemory ends = ends
+turned-ends l h number unread unread' held held' s SourceFailed ends = ends
+turned-ends l h number unread unread' held held' s SinkFailed ends = ends
+turned-ends l h number unread unread' held held' s Stopped ends = ends
 
 -- an event with limits is their line
 pub is_limits : (event : Event) (l : Limits) → limits_of event ≡ Some l → event ≡ events.Limits l
 is_limits (events.Limits limits) l is = cc
-is_limits (events.Spawn r origin) l is = cc
-is_limits (events.Build r b kind parts) l is = cc
-is_limits (events.Drop r b) l is = cc
-is_limits (events.Read r q b off len) l is = cc
-is_limits (events.Step q) l is = cc
-is_limits events.Finish l is = cc
+is_limits event l is = cc
 
--- behind the greatest number of lines
-pub some-long : (unread unread' : Option (List ℕ)) (line : List ℕ) → Consumes unread unread' line → length line ≡ 2 ^ 20 + 1 → IfSome unread (λ (rest : List ℕ). rest ≢ [])
-some-long None unread' line taken long = tt
-some-long (Some bytes) None line taken long = absurd taken
-some-long (Some bytes) (Some rest) line taken long = λ none. let size = ap length (sym taken ∙ none) in absurd (omega (arith, size, length-append line rest, long))
+-- ---- behind the greatest number of lines
 
-pub past-refused : (unread held held' : Option (List ℕ)) (ending : Ending) → IfSome unread (λ (rest : List ℕ). rest ≢ []) → IsRefusal (2 ^ 20 + 1) held held' ending → EndsPast unread held held' ending
-past-refused unread held held' Finished some written = absurd written
-past-refused unread held held' (Refused n) some written = (written.0, some, written.1)
-past-refused unread held held' NoMemory some written = written
-past-refused unread held held' SourceFailed some written = absurd written
-past-refused unread held held' SinkFailed some written = written
-past-refused unread held held' Stopped some written = absurd written
+pub past-some : (unread unread' : Option (List ℕ)) (line : List ℕ) → Consumes unread unread' line → 0 < length line → IfSome unread (IsOutPast reasons.Lines)
+past-some None unread' line taken some = tt
+past-some (Some bytes) None line taken some = absurd taken
+past-some (Some bytes) (Some rest) line taken some = (refl, λ none. let size = ap length (sym taken ∙ none) in absurd (omega (arith, size, length-append line rest, some)))
+
+pub past-unended : (unread : Option (List ℕ)) (line : List ℕ) → IfSome unread (λ bytes. bytes ≡ line) → 0 < length line → IfSome unread (IsOutPast reasons.Lines)
+past-unended None line taken some = tt
+past-unended (Some bytes) line taken some = (refl, λ none. let size = ap length (sym taken ∙ none) in absurd (omega (arith, size, some)))

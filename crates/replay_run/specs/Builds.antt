@@ -6,8 +6,8 @@ use Rattle.session_script.specs.declared.event.Event.{Event}
 use Rattle.session_script.specs.declared.event.Event.TheVariants as events
 use Rattle.session_script.specs.declared.event.Part.{Part}
 use Rattle.session_script.specs.declared.event.Part.TheVariants as parts
-use Rattle.replay_run.specs.declared.answer.Answer.{Answer}
-use Rattle.replay_run.specs.declared.answer.Answer.TheVariants as answers
+use Rattle.answer_text.specs.declared.answer.Answer.{Answer}
+use Rattle.answer_text.specs.declared.answer.Answer.TheVariants as answers
 use Rattle.replay_run.specs.History.{History, start, heard, said}
 
 -- a blob: its name and the parts that it was built from
@@ -34,9 +34,10 @@ build_of h name = find (λ (build : Build). name == build.name) (builds h)
 abbrev pub is_built : History → ℕ → Bool
 is_built h name = list_any (λ (build : Build). name == build.name) (builds h)
 
--- the bytes that stand in a part of the line
+-- the bytes that stand in a part of the line; the other parts name bytes elsewhere, and aren't built yet
 abbrev pub part_bytes : Part → List ℕ
 part_bytes (parts.Embedded bytes) = bytes
+part_bytes part = []
 
 -- what was sent for a blob: the embedded bytes of its parts, in order
 abbrev pub sent : Build → List ℕ

@@ -3,8 +3,8 @@ use Rattle.std.specs.Prelude.{ℕ, ◌-◌, ◌==◌, List, take, drop, min, map
 use Rattle.blob_words.specs.declared.limits.Limits.{Limits}
 use Rattle.blob_words.specs.declared.number.ReaderId.{ReaderId}
 use Rattle.blob_words.specs.declared.status.Status.TheVariants as statuses
-use Rattle.replay_run.specs.declared.answer.Answer.{Answer}
-use Rattle.replay_run.specs.declared.answer.Answer.TheVariants as answers
+use Rattle.answer_text.specs.declared.answer.Answer.{Answer}
+use Rattle.answer_text.specs.declared.answer.Answer.TheVariants as answers
 use Rattle.replay_run.specs.History.{History}
 use Rattle.replay_run.specs.Builds.{Cell, cells_of, value}
 use Rattle.replay_run.specs.Readers.{OpenReader}

@@ -6,7 +6,7 @@ use Rattle.replay_run.specs.declared.ending.Ending.TheVariants.{Finished, Refuse
 -- 0 to 6; 1 is no status of a replay, but of other words
 abbrev pub code_of : Ending → ℕ
 code_of Finished = 0
-code_of (Refused number) = 2
+code_of (Refused number reason) = 2
 code_of NoMemory = 3
 code_of SourceFailed = 4
 code_of SinkFailed = 5

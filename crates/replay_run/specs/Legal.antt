@@ -2,9 +2,9 @@
 use Rattle.std.specs.Prelude.{◌≡◌, false, List, [], ◌∷◌, Some}
 use Rattle.session_script.specs.declared.event.Event.TheVariants as events
 use Rattle.blob_words.specs.declared.limits.Limits.{Limits}
-use Rattle.replay_run.specs.declared.answer.Answer.{Answer}
-use Rattle.replay_run.specs.declared.answer.Answer.TheVariants as answers
-use Rattle.replay_run.specs.declared.group.Group.{Group}
+use Rattle.answer_text.specs.declared.answer.Answer.{Answer}
+use Rattle.answer_text.specs.declared.answer.Answer.TheVariants as answers
+use Rattle.answer_text.specs.declared.group.Group.{Group}
 use Rattle.replay_run.specs.History.{History, start, heard, after, has_ended}
 use Rattle.replay_run.specs.Own.{own}
 use Rattle.replay_run.specs.Settle.{settle}

@@ -8,6 +8,7 @@ pub mod Chunk
 pub mod Own
 pub mod Settle
 pub mod Legal
+pub mod Reason
 pub mod Text
 pub mod Reads
 pub mod Ending

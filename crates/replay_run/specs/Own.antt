@@ -1,16 +1,17 @@
 -- The first answer of each line. Own.
-use Rattle.std.specs.Prelude.{ℕ, ◌+◌, ◌==◌, ◌||◌, Bool, not, List, [], length, find, Option, None, Some, unwrap_or, nat_lt, nat_le, if◌then◌else◌, flat_map}
+use Rattle.std.specs.Prelude.{ℕ, ◌+◌, ◌==◌, ◌||◌, ◌&&◌, Bool, true, false, not, List, [], length, find, Option, None, Some, unwrap_or, nat_lt, nat_le, if◌then◌else◌, flat_map}
 use Rattle.std.specs.Option.{option_map, option_map_or}
-use Rattle.std.specs.List.{list_any}
+use Rattle.std.specs.List.{list_any, list_all}
 use Rattle.session_script.specs.declared.event.Event.{Event}
 use Rattle.session_script.specs.declared.event.Event.TheVariants as events
 use Rattle.session_script.specs.declared.event.Part.{Part}
+use Rattle.session_script.specs.declared.event.Part.TheVariants as parts
 use Rattle.blob_words.specs.declared.limits.Limits.{Limits}
 use Rattle.blob_words.specs.declared.number.RendererId.{RendererId}
 use Rattle.blob_words.specs.declared.number.ReaderId.{ReaderId}
-use Rattle.replay_run.specs.declared.answer.Answer.{Answer}
-use Rattle.replay_run.specs.declared.answer.Answer.TheVariants as answers
-use Rattle.replay_run.specs.declared.answer.Refusal.TheVariants as refusals
+use Rattle.answer_text.specs.declared.answer.Answer.{Answer}
+use Rattle.answer_text.specs.declared.answer.Answer.TheVariants as answers
+use Rattle.answer_text.specs.declared.refusal.Refusal.TheVariants as refusals
 use Rattle.replay_run.specs.History.{History}
 use Rattle.replay_run.specs.Builds.{builds, is_built, part_bytes, size_of}
 use Rattle.replay_run.specs.Readers.{OpenReader, readers}
@@ -23,7 +24,16 @@ use Rattle.replay_run.specs.Chunk.{step_answer}
 abbrev pub own_spawn : History → RendererId → Option Answer
 own_spawn h renderer = if is_spawned h renderer.0 || nat_le 1024 (length (renderers h)) then None else Some answers.Good
 
--- a build answers its plan
+-- whether the bytes of the part stand in the line
+abbrev pub is_embedded : Part → Bool
+is_embedded (parts.Embedded bytes) = true
+is_embedded part = false
+
+-- whether a build is one of no content type and of bytes that stand in the line
+abbrev pub is_plain : List ℕ → List Part → Bool
+is_plain kind parts = (length kind == 0) && list_all is_embedded parts
+
+-- such a build answers its plan
 abbrev pub own_build : Limits → History → RendererId → ℕ → List Part → Option Answer
 own_build l h renderer name parts =
     if not (is_spawned h renderer.0) then Some (answers.Refused (refusals.NoRenderer renderer)) else (
@@ -60,10 +70,10 @@ own_step l h reader =
 
 -- the first answer of a line, or nothing where the line is not built yet
 abbrev pub own : Limits → History → Event → Option Answer
-own l h (events.Limits limits) = None
 own l h (events.Spawn renderer origin) = own_spawn h renderer
-own l h (events.Build renderer name kind parts) = own_build l h renderer name parts
+own l h (events.Build renderer name kind parts) = if is_plain kind parts then own_build l h renderer name parts else None
 own l h (events.Drop renderer name) = own_drop h renderer name
 own l h (events.Read renderer reader name off len) = own_read h renderer reader name off len
 own l h (events.Step reader) = own_step l h reader
 own l h events.Finish = Some answers.Good
+own l h event = None

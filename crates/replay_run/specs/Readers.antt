@@ -3,8 +3,8 @@ use Rattle.std.specs.Prelude.{ℕ, ◌+◌, ◌==◌, not, List, [], ◌∷◌, 
 use Rattle.blob_words.specs.declared.number.ReaderId.{ReaderId}
 use Rattle.session_script.specs.declared.event.Event.{Event}
 use Rattle.session_script.specs.declared.event.Event.TheVariants as events
-use Rattle.replay_run.specs.declared.answer.Answer.{Answer}
-use Rattle.replay_run.specs.declared.answer.Answer.TheVariants as answers
+use Rattle.answer_text.specs.declared.answer.Answer.{Answer}
+use Rattle.answer_text.specs.declared.answer.Answer.TheVariants as answers
 use Rattle.replay_run.specs.History.{History, start, heard, said}
 
 -- a reader: its number, its blob, the place in the blob of the next byte to give, and the end of its range

@@ -8,9 +8,9 @@ use Rattle.blob_words.specs.declared.limits.Limits.{Limits}
 use Rattle.blob_words.specs.declared.number.RendererId.{RendererId}
 use Rattle.blob_words.specs.declared.number.ReaderId.{ReaderId}
 use Rattle.blob_words.specs.declared.plan.Plan.TheVariants as plans
-use Rattle.replay_run.specs.declared.answer.Answer.{Answer}
-use Rattle.replay_run.specs.declared.answer.Answer.TheVariants as answers
-use Rattle.replay_run.specs.declared.group.Group.{Group}
+use Rattle.answer_text.specs.declared.answer.Answer.{Answer}
+use Rattle.answer_text.specs.declared.answer.Answer.TheVariants as answers
+use Rattle.answer_text.specs.declared.group.Group.{Group}
 use Rattle.replay_run.specs.Legal.{opening}
 
 -- limits 64 64 32 16 4 8 2

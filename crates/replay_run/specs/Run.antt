@@ -1,15 +1,18 @@
 -- What a replay reads and writes, by how it ended: the table of statuses. Own.
-use Rattle.std.specs.Prelude.{◌≡◌, ◌+◌, ◌^◌, ◌≤◌, ℕ, Bool, true, false, List, [], ◌∷◌, ◌++◌, length, Option, codes}
+use Rattle.std.specs.Prelude.{◌≡◌, ◌⊎◌, ◌+◌, ◌^◌, ◌<◌, ◌≤◌, ℕ, Bool, true, false, List, [], ◌∷◌, ◌++◌, length, Option, IfSome, codes}
 use Rattle.std.specs.List.{AllByRecursion}
-use Rattle.std.specs.Io.KnownBytes.{Appends}
+use Rattle.std.specs.Io.KnownBytes.{Appends, Consumes, IsAtEnd}
 use Rattle.blob_source.specs.Faults.{Rose}
+use Rattle.session_script.specs.Line.{line_of}
+use Rattle.answer_text.specs.Text.{group_text, groups_text}
+use Rattle.answer_text.specs.declared.group.Group.{Group}
 use Rattle.replay_run.specs.declared.ending.Ending.{Ending}
 use Rattle.replay_run.specs.declared.ending.Ending.TheVariants.{Finished, Refused, NoMemory, SourceFailed, SinkFailed, Stopped}
-use Rattle.replay_run.specs.declared.group.Group.{Group}
+use Rattle.replay_run.specs.declared.reason.Reason.{Reason}
 use Rattle.replay_run.specs.History.{start, history_from, has_ended}
 use Rattle.replay_run.specs.Legal.{IsLegal}
-use Rattle.replay_run.specs.Text.{print, refusal_line}
-use Rattle.replay_run.specs.Reads.{IsLineOf, events_of, HasRead, IsRefused}
+use Rattle.replay_run.specs.Text.{refusal_line, IsProperPrefix}
+use Rattle.replay_run.specs.Reads.{IsLineOf, BeginsWith, events_of, spelled, IsRefused}
 use Rattle.replay_run.specs.Ending.{code_of}
 
 -- the words ask for a replay: `replay` and nothing else
@@ -21,23 +24,33 @@ abbrev pub have_ended : List Group → Bool
 have_ended [] = false
 have_ended (group ∷ groups) = has_ended (history_from start groups)
 
--- what stands in the session behind the lines of the groups: at 0 anything, but the last line was `end`; at 2 a line that is refused, of the next number; at 6 nothing
-abbrev pub IsLeft : Ending → List Group → List ℕ → Type 0
-IsLeft Finished groups rest = have_ended groups ≡ true
-IsLeft (Refused number) groups rest = (have_ended groups ≡ false) × (number ≡ length groups + 1) × IsRefused groups rest
-IsLeft NoMemory groups rest = Unit {0}
-IsLeft SourceFailed groups rest = Unit {0}
-IsLeft SinkFailed groups rest = Unit {0}
-IsLeft Stopped groups rest = (have_ended groups ≡ false) × (rest ≡ [])
+-- what is unread of the session behind the lines of the groups: at 0 anything, but the last line was `end`; at 2 a line that is refused, of the next number; at 5 anything, and the last line was not `end`; at 6 nothing
+abbrev pub IsLeft : Ending → List Group → Option (List ℕ) → Type 0
+IsLeft Finished groups unread = have_ended groups ≡ true
+IsLeft (Refused number reason) groups unread = (have_ended groups ≡ false) × (number ≡ length groups + 1) × IfSome unread (IsRefused groups reason)
+IsLeft NoMemory groups unread = Unit {0}
+IsLeft SourceFailed groups unread = Unit {0}
+IsLeft SinkFailed groups unread = have_ended groups ≡ false
+IsLeft Stopped groups unread = (have_ended groups ≡ false) × IsAtEnd unread
 
--- what was written behind the texts of the groups: at 2 the line of the refusal, at 5 some part of what was to come, else nothing
-abbrev pub IsLast : Ending → List ℕ → Type 0
-IsLast Finished text = text ≡ []
-IsLast (Refused number) text = text ≡ refusal_line number
-IsLast NoMemory text = text ≡ []
-IsLast SourceFailed text = text ≡ []
-IsLast SinkFailed text = Unit {0}
-IsLast Stopped text = text ≡ []
+-- the group may come behind these ones
+abbrev pub IsNext : List Group → Group → Type 0
+IsNext groups group = IsLegal (groups ++ group ∷ []) × (length groups < 2 ^ 20)
+
+-- a part, which lacks some byte, of what was to be written for the next line: of a group's text, where the line is that of its event, or of the `!` line, where the line is refused
+abbrev pub IsCut : (Group → Type 0) → (Reason → List ℕ → Type 0) → ℕ → Option (List ℕ) → List ℕ → Type 0
+IsCut Next IsOut number unread part =
+    ((group : Group) × Next group × IsLineOf group.event × IfSome unread (λ bytes. BeginsWith bytes (line_of group.event)) × IsProperPrefix part (group_text group))
+    ⊎ ((reason : Reason) × IfSome unread (IsOut reason) × IsProperPrefix part (refusal_line number reason))
+
+-- what was written behind the texts of the groups: at 2 the `!` line, at 5 a part of what was to come, else nothing
+abbrev pub IsLast : Ending → List Group → Option (List ℕ) → List ℕ → Type 0
+IsLast Finished groups unread text = text ≡ []
+IsLast (Refused number reason) groups unread text = text ≡ refusal_line number reason
+IsLast NoMemory groups unread text = text ≡ []
+IsLast SourceFailed groups unread text = text ≡ []
+IsLast SinkFailed groups unread text = IsCut (IsNext groups) (IsRefused groups) (length groups + 1) unread text
+IsLast Stopped groups unread text = text ≡ []
 
 -- at 4 the source's count of faults rose, at 5 the sink's
 abbrev pub HasCause : Ending → ℕ → ℕ → ℕ → ℕ → Type 0
@@ -53,8 +66,10 @@ pub record IsReplay (told held held' : Option (List ℕ)) (source source' sink s
   pub legal : IsLegal transcript
   pub lines : AllByRecursion IsLineOf (events_of transcript)
   pub few : length transcript ≤ 2 ^ 20
-  pub read : HasRead told transcript (IsLeft ending transcript)
+  pub unread : Option (List ℕ)
+  pub read : Consumes told unread (spelled (events_of transcript))
+  pub left : IsLeft ending transcript unread
   pub last : List ℕ
-  pub written : Appends held held' (print transcript ++ last)
-  pub is_last : IsLast ending last
+  pub written : Appends held held' (groups_text transcript ++ last)
+  pub is_last : IsLast ending transcript unread last
   pub cause : HasCause ending source source' sink sink'

@@ -3,8 +3,8 @@ use Rattle.std.specs.Prelude.{◌≡◌, ℕ, ◌==◌, ◌≤◌, false, List, 
 use Rattle.std.specs.List.{list_any, AllByRecursion}
 use Rattle.session_script.specs.declared.event.Event.{Event}
 use Rattle.blob_words.specs.declared.limits.Limits.{Limits}
-use Rattle.replay_run.specs.declared.answer.Answer.{Answer}
-use Rattle.replay_run.specs.declared.group.Group.{Group}
+use Rattle.answer_text.specs.declared.answer.Answer.{Answer}
+use Rattle.answer_text.specs.declared.group.Group.{Group}
 use Rattle.replay_run.specs.declared.store.Store.{Store}
 use Rattle.replay_run.specs.declared.store.blob.Blob.{Blob}
 use Rattle.replay_run.specs.declared.store.reader.Reader.{Reader}

@@ -1,13 +1,15 @@
 ghost use Rattle.std.specs.Prelude.{◌≡◌};
 ghost use Rattle.replay_run.specs.Ending.{code_of};
 
+use crate::reason::Reason;
+
 /// How a replay ended.
 #[derive(Clone, Copy, Debug, PartialEq, Eq)]
 pub enum Ending {
     /// The `end` line was read and its group written.
     Finished,
     /// The line of this number, from 1, was refused, and that was written.
-    Refused(u32),
+    Refused(u32, Reason),
     /// There was no memory.
     NoMemory,
     /// The source failed.
@@ -24,7 +26,7 @@ pub fn status_of(ending: Ending) -> u8
 {
     match ending {
         Ending::Finished => 0,
-        Ending::Refused(_) => 2,
+        Ending::Refused(_, _) => 2,
         Ending::NoMemory => 3,
         Ending::SourceFailed => 4,
         Ending::SinkFailed => 5,

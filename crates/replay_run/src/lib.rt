@@ -1,10 +1,9 @@
 //! A session replayed against a blob store: bytes in, a transcript out.
 #![tactic(auto)]
 
-pub mod answer;
 pub mod ending;
-pub mod group;
-pub mod print;
+pub mod reason;
+pub mod refusal_line;
 pub mod replay;
 pub mod rows;
 pub mod store;

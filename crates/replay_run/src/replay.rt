@@ -13,7 +13,6 @@ use crate::replay::follow::follow;
 use crate::replay::line::take_limits;
 use crate::replay::open::open_with;
 use blob_source::{LineReader, Sink, Source};
-use blob_words::Octets;
 use std::alloc::Global;
 
 fn replay<S: Source, K: Sink>(alloc: Global, session: &mut S, out: &mut K) -> Ending
@@ -25,16 +24,15 @@ fn replay<S: Source, K: Sink>(alloc: Global, session: &mut S, out: &mut K) -> En
     let Ok(mut reader) = LineReader::new(alloc) else {
         return Ending::NoMemory;
     };
-    let mut text = Octets::new(alloc);
-    let limits = match take_limits(alloc, &mut reader, &mut text, session, out) {
+    let limits = match take_limits(alloc, &mut reader, session, out) {
         Ok(limits) => limits,
         Err(ending) => return ending,
     };
-    let mut store = match open_with(alloc, limits, &mut text, out) {
+    let mut store = match open_with(alloc, limits, out) {
         Ok(store) => store,
         Err(ending) => return ending,
     };
-    follow(alloc, &mut reader, &mut store, &mut text, session, out)
+    follow(alloc, &mut reader, &mut store, session, out)
 }
 
 /// Whether the words ask for a replay.

@@ -10,11 +10,10 @@ pub mod shelf;
 ghost use Rattle.std.specs.Prelude.{◌≡◌, ℕ, List, [], ◌∷◌, map, IfOk, IfErr, option_to_list};
 ghost use Rattle.replay_run.specs.Settle.{unfinished_after};
 
-use crate::answer::{Answer, Answers, Refusal};
-use crate::group::Group;
+use answer_text::{Answer, Answers, Group, Refusal};
 use crate::store::admitted::Admitted;
 use crate::store::blob::Blob;
-use crate::store::content::{joined, measure_parts, plan_for, range};
+use crate::store::content::{is_plain, joined, measure_parts, plan_for, range};
 use crate::store::fault::ApplyFault;
 use crate::store::reader::Reader;
 use crate::store::readers::Readers;
@@ -71,12 +70,12 @@ impl Store {
     ghost use Rattle.replay_run.specs.History.{History, start, heard, has_ended};
     ghost use Rattle.blob_words.specs.declared.number.RendererId.{RendererId as SomeRenderer};
     ghost use Rattle.blob_words.specs.declared.status.Status.{Status as SomeStatus};
-    ghost use Rattle.replay_run.specs.declared.answer.Answer.TheVariants as answers;
+    ghost use Rattle.answer_text.specs.declared.answer.Answer.TheVariants as answers;
     ghost use Rattle.replay_run.specs.Builds.{builds, is_built, size_of};
     ghost use Rattle.replay_run.specs.Readers.{range_end};
     ghost use Rattle.replay_run.specs.Live.{is_spawned, has_handle, is_live};
     ghost use Rattle.replay_run.specs.Pieces.{tally};
-    ghost use Rattle.replay_run.specs.Own.{is_open, is_unbuilt_read, own_build};
+    ghost use Rattle.replay_run.specs.Own.{is_open, is_plain, is_unbuilt_read, own_build};
     ghost use Rattle.replay_run.specs.Shelf.{IsWithin, blob_at, bytes_in, count_of};
     ghost use Rattle.replay_run.specs.declared.store.reader.Reader.{Reader as SomeReader};
     ghost use Rattle.replay_run.specs.Open.{reader_at};
@@ -223,7 +222,7 @@ impl Store {
         name: BlobName,
         parts: &Parts,
     ) -> Result<Answer, ApplyFault>
-        ensures { (l : SomeLimits) (h : History) (kind : List ℕ) → Stands l self.old h → Answered l h (events.Build renderer name kind parts.now) self.new result }
+        ensures { (l : SomeLimits) (h : History) (kind : List ℕ) → Stands l self.old h → is_plain kind parts.now ≡ true → Answered l h (events.Build renderer name kind parts.now) self.new result }
     {
         if !self.is_spawned(renderer) {
             return Ok(Answer::Refused(Refusal::NoRenderer(renderer)));
@@ -370,13 +369,25 @@ impl Store {
         ensures { (l : SomeLimits) (h : History) → Stands l self.old h → Answered l h event.now self.new result }
     {
         match event {
-            Event::Limits(_) => Err(ApplyFault::Unbuilt),
             Event::Spawn { r, .. } => self.spawn(*r),
-            Event::Build { r, b, parts, .. } => self.build(alloc, *r, *b, parts),
+            Event::Build { r, b, kind, parts } => {
+                if !is_plain(kind.as_slice(), parts.as_slice()) {
+                    return Err(ApplyFault::Unbuilt);
+                }
+                self.build(alloc, *r, *b, parts)
+            }
             Event::Drop { r, b } => Ok(self.drop_handle(*r, *b)),
             Event::Read { r, q, b, off, len } => self.read(alloc, *r, *q, *b, *off, *len),
             Event::Step { q } => self.step(alloc, *q),
             Event::Finish => Ok(self.finish()),
+            Event::Limits(_) | Event::Limits2(_) => Err(ApplyFault::Unbuilt),
+            Event::Die { .. } | Event::Pass { .. } => Err(ApplyFault::Unbuilt),
+            Event::File { .. } | Event::Gone { .. } => Err(ApplyFault::Unbuilt),
+            Event::Slice { .. } | Event::Segment { .. } => Err(ApplyFault::Unbuilt),
+            Event::Url { .. } | Event::Revoke { .. } => Err(ApplyFault::Unbuilt),
+            Event::Fetch { .. } | Event::Cancel { .. } => Err(ApplyFault::Unbuilt),
+            Event::Disk { .. } | Event::Lost { .. } => Err(ApplyFault::Unbuilt),
+            Event::Stat { .. } | Event::Count => Err(ApplyFault::Unbuilt),
         }
     }
 

@@ -11,7 +11,6 @@ use crate::replay::line::{MAX_LINES, past_lines, take_turn};
 use crate::store::Store;
 use crate::turn::Turn;
 use blob_source::{LineReader, Sink, Source};
-use blob_words::Octets;
 use std::alloc::Global;
 
 /// Takes the lines behind the first, up to the one that ends the session.
@@ -19,7 +18,6 @@ pub fn follow<S: Source, K: Sink>(
     alloc: Global,
     reader: &mut LineReader,
     store: &mut Store,
-    text: &mut Octets,
     session: &mut S,
     out: &mut K,
 ) -> Ending
@@ -30,10 +28,10 @@ pub fn follow<S: Source, K: Sink>(
     ensures sink_later { K.faults out.old ≤ K.faults out.new }
 {
     for number in 2..=MAX_LINES {
-        match take_turn(alloc, number, reader, store, text, session, out) {
+        match take_turn(alloc, number, reader, store, session, out) {
             Turn::More => {}
             Turn::Over(ending) => return ending,
         }
     }
-    past_lines(reader, text, session, out)
+    past_lines(reader, session, out)
 }

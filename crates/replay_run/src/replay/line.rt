@@ -1,26 +1,26 @@
-ghost use Rattle.std.specs.Prelude.{◌≡◌, ◌≤◌, ◌^◌, ℕ, List, [], ◌∷◌, ◌++◌, Option, None, Ok, Err, false, length, IfOk, IfErr};
-ghost use Rattle.std.specs.Io.KnownBytes.{Appends, Consumes, prepend_known};
+ghost use Rattle.std.specs.Prelude.{◌≡◌, ◌≤◌, ◌+◌, ◌^◌, ℕ, List, [], ◌∷◌, ◌++◌, Option, false, length, IfOk, IfErr};
+ghost use Rattle.std.specs.Io.KnownBytes.{Consumes, prepend_known};
 ghost use Rattle.blob_words.specs.declared.limits.Limits.{Limits as SomeLimits};
 ghost use Rattle.blob_source.specs.Lines.{has_line_feed};
 ghost use Rattle.blob_source.specs.declared.line_step.LineStep.TheVariants as steps;
 ghost use Rattle.replay_run.specs.History.{History};
-ghost use Rattle.replay_run.specs.Own.{own};
 ghost use Rattle.session_script.specs.declared.event.Event.TheVariants as events;
 ghost use Rattle.session_script.specs.Line.{line_of};
-ghost use Rattle.blob_source.specs.Faults.{Rose};
-ghost use Rattle.replay_run.specs.Reads.{IsLineOf, limits_of};
+ghost use Rattle.replay_run.specs.Reads.{IsLineOf, limits_of, states_limits};
 ghost use Rattle.replay_run.specs.Stands.{Rests};
-ghost use Rattle.replay_run.specs.Turns.{EndsAt, EndsPast, Turned, TurnCause};
+ghost use Rattle.replay_run.specs.Turns.{EndsAt, IsNone, IsOpening, IsOutFirst, IsOutPast, Turned, TurnCause};
 ghost use Rattle.replay_run.specs.Run.{HasCause};
 
 use crate::ending::Ending;
-use crate::replay::put::{put_group, refuse};
+use crate::reason::Reason;
+use crate::replay::put::{refuse, refuse_fault};
 use crate::store::Store;
 use crate::store::fault::ApplyFault;
 use crate::turn::Turn;
 use blob_source::{LineReader, LineStep, Sink, Source};
-use blob_words::{Limits, Octets};
-use session_script::{Event, LineFault, read_line};
+use answer_text::stream_group;
+use blob_words::{Failed, Limits};
+use session_script::{Event, read_line};
 use std::alloc::Global;
 
 /// The greatest number of lines of a session.
@@ -32,7 +32,6 @@ fn answer_line<K: Sink>(
     number: u32,
     line: &[u8],
     store: &mut Store,
-    text: &mut Octets,
     out: &mut K,
 ) -> Turn
     ensures turned { (l : SomeLimits) (h : History) (unread unread' : Option (List ℕ)) → Rests l store.old h → length line.now ≤ 2 ^ 20 → has_line_feed line.now ≡ false
@@ -42,17 +41,16 @@ fn answer_line<K: Sink>(
 {
     let event = match read_line(alloc, line) {
         Ok(event) => event,
-        Err(LineFault::Unbuilt) => return Turn::Over(refuse(number, text, out)),
-        Err(LineFault::Memory) => return Turn::Over(Ending::NoMemory),
+        Err(fault) => return Turn::Over(refuse_fault(number, fault, out)),
     };
     let group = match store.apply(alloc, event) {
         Ok(group) => group,
-        Err(ApplyFault::Unbuilt) => return Turn::Over(refuse(number, text, out)),
+        Err(ApplyFault::Unbuilt) => return Turn::Over(refuse(number, Reason::Unbuilt, out)),
         Err(ApplyFault::NoMemory) => return Turn::Over(Ending::NoMemory),
     };
-    match put_group(&group, text, out) {
+    match stream_group(&group, out) {
         Ok(()) => {}
-        Err(ending) => return Turn::Over(ending),
+        Err(Failed) => return Turn::Over(Ending::SinkFailed),
     }
     if store.has_ended() {
         return Turn::Over(Ending::Finished);
@@ -66,7 +64,6 @@ pub fn take_turn<S: Source, K: Sink>(
     number: u32,
     reader: &mut LineReader,
     store: &mut Store,
-    text: &mut Octets,
     session: &mut S,
     out: &mut K,
 ) -> Turn
@@ -78,26 +75,32 @@ pub fn take_turn<S: Source, K: Sink>(
     ensures sink_later { K.faults out.old ≤ K.faults out.new }
 {
     match reader.next_line(session) {
-        LineStep::Line => answer_line(alloc, number, reader.line(), store, text, out),
+        LineStep::Line => answer_line(alloc, number, reader.line(), store, out),
         LineStep::End => Turn::Over(Ending::Stopped),
-        LineStep::Unended => Turn::Over(refuse(number, text, out)),
-        LineStep::TooLong => Turn::Over(refuse(number, text, out)),
+        LineStep::Unended => Turn::Over(refuse(number, Reason::Unended, out)),
+        LineStep::TooLong => Turn::Over(refuse(number, Reason::Long, out)),
         LineStep::ReadFault => Turn::Over(Ending::SourceFailed),
     }
 }
 
-/// The limits, where the event is their line.
+/// Whether the event is limits, of either version.
+fn states_limits(event: &Event) -> bool
+    ensures { result ≡ states_limits event.now }
+{
+    match event {
+        Event::Limits(_) => true,
+        Event::Limits2(_) => true,
+        _ => false,
+    }
+}
+
+/// The limits of a session of version 1, where the event is their line.
 fn limits_of(event: Event) -> Option<Limits>
     ensures { result ≡ limits_of event }
 {
     match event {
         Event::Limits(limits) => Some(limits),
-        Event::Spawn { .. } => None,
-        Event::Build { .. } => None,
-        Event::Drop { .. } => None,
-        Event::Read { .. } => None,
-        Event::Step { .. } => None,
-        Event::Finish => None,
+        _ => None,
     }
 }
 
@@ -105,23 +108,24 @@ fn limits_of(event: Event) -> Option<Limits>
 fn read_limits<K: Sink>(
     alloc: Global,
     line: &[u8],
-    text: &mut Octets,
     out: &mut K,
 ) -> Result<Limits, Ending>
     ensures limits { length line.now ≤ 2 ^ 20 → IfOk result (λ limits. IsLineOf (events.Limits limits) × (line.now ≡ line_of (events.Limits limits)) × (out.new ≡ out.old)) }
     ensures refused { (unread unread' : Option (List ℕ)) → length line.now ≤ 2 ^ 20 → has_line_feed line.now ≡ false → Consumes unread unread' (line.now ++ 10 ∷ [])
-        → IfErr result (EndsAt (λ event. limits_of event ≡ None) 1 unread (K.held out.old) (K.held out.new)) }
+        → IfErr result (EndsAt IsOpening IsOutFirst 1 unread (K.held out.old) (K.held out.new)) }
     ensures cause { (source : ℕ) → IfErr result (λ ending. HasCause ending source source (K.faults out.old) (K.faults out.new)) }
     ensures later { K.faults out.old ≤ K.faults out.new }
 {
     let event = match read_line(alloc, line) {
         Ok(event) => event,
-        Err(LineFault::Unbuilt) => return Err(refuse(1, text, out)),
-        Err(LineFault::Memory) => return Err(Ending::NoMemory),
+        Err(fault) => return Err(refuse_fault(1, fault, out)),
     };
+    if !states_limits(&event) {
+        return Err(refuse(1, Reason::First, out));
+    }
     match limits_of(event) {
         Some(limits) => Ok(limits),
-        None => Err(refuse(1, text, out)),
+        None => Err(refuse(1, Reason::Unbuilt, out)),
     }
 }
 
@@ -129,23 +133,22 @@ fn read_limits<K: Sink>(
 pub fn take_limits<S: Source, K: Sink>(
     alloc: Global,
     reader: &mut LineReader,
-    text: &mut Octets,
     session: &mut S,
     out: &mut K,
 ) -> Result<Limits, Ending>
     ensures limits { reader.old.last ≡ steps.Line → IfOk result (λ limits. IsLineOf (events.Limits limits) × (out.new ≡ out.old) × (reader.new.last ≡ steps.Line)
         × Consumes (prepend_known reader.old.ahead (S.left session.old)) (prepend_known reader.new.ahead (S.left session.new)) (line_of (events.Limits limits) ++ 10 ∷ [])) }
     ensures refused { reader.old.last ≡ steps.Line
-        → IfErr result (EndsAt (λ event. limits_of event ≡ None) 1 (prepend_known reader.old.ahead (S.left session.old)) (K.held out.old) (K.held out.new)) }
+        → IfErr result (EndsAt IsOpening IsOutFirst 1 (prepend_known reader.old.ahead (S.left session.old)) (K.held out.old) (K.held out.new)) }
     ensures cause { reader.old.last ≡ steps.Line → IfErr result (λ ending. HasCause ending (S.faults session.old) (S.faults session.new) (K.faults out.old) (K.faults out.new)) }
     ensures source_later { S.faults session.old ≤ S.faults session.new }
     ensures sink_later { K.faults out.old ≤ K.faults out.new }
 {
     match reader.next_line(session) {
-        LineStep::Line => read_limits(alloc, reader.line(), text, out),
+        LineStep::Line => read_limits(alloc, reader.line(), out),
         LineStep::End => Err(Ending::Stopped),
-        LineStep::Unended => Err(refuse(1, text, out)),
-        LineStep::TooLong => Err(refuse(1, text, out)),
+        LineStep::Unended => Err(refuse(1, Reason::Unended, out)),
+        LineStep::TooLong => Err(refuse(1, Reason::Long, out)),
         LineStep::ReadFault => Err(Ending::SourceFailed),
     }
 }
@@ -153,20 +156,19 @@ pub fn take_limits<S: Source, K: Sink>(
 /// Looks behind the greatest number of lines.
 pub fn past_lines<S: Source, K: Sink>(
     reader: &mut LineReader,
-    text: &mut Octets,
     session: &mut S,
     out: &mut K,
 ) -> Ending
-    ensures ends { reader.old.last ≡ steps.Line → EndsPast (prepend_known reader.old.ahead (S.left session.old)) (K.held out.old) (K.held out.new) result }
+    ensures ends { reader.old.last ≡ steps.Line → EndsAt IsNone IsOutPast (2 ^ 20 + 1) (prepend_known reader.old.ahead (S.left session.old)) (K.held out.old) (K.held out.new) result }
     ensures cause { reader.old.last ≡ steps.Line → HasCause result (S.faults session.old) (S.faults session.new) (K.faults out.old) (K.faults out.new) }
     ensures source_later { S.faults session.old ≤ S.faults session.new }
     ensures sink_later { K.faults out.old ≤ K.faults out.new }
 {
     match reader.next_line(session) {
-        LineStep::Line => refuse(MAX_LINES + 1, text, out),
+        LineStep::Line => refuse(MAX_LINES + 1, Reason::Lines, out),
         LineStep::End => Ending::Stopped,
-        LineStep::Unended => refuse(MAX_LINES + 1, text, out),
-        LineStep::TooLong => refuse(MAX_LINES + 1, text, out),
+        LineStep::Unended => refuse(MAX_LINES + 1, Reason::Lines, out),
+        LineStep::TooLong => refuse(MAX_LINES + 1, Reason::Lines, out),
         LineStep::ReadFault => Ending::SourceFailed,
     }
 }

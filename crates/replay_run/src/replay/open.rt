@@ -3,17 +3,15 @@ ghost use Rattle.std.specs.Io.KnownBytes.{Appends};
 ghost use Rattle.blob_source.specs.Faults.{Rose};
 ghost use Rattle.replay_run.specs.History.{start};
 ghost use Rattle.replay_run.specs.Legal.{opening};
-ghost use Rattle.replay_run.specs.Puts.{IsCut};
-ghost use Rattle.replay_run.specs.Text.{group_text};
+ghost use Rattle.answer_text.specs.Text.{group_text};
+ghost use Rattle.replay_run.specs.Puts.{IsUnwritten};
 ghost use Rattle.replay_run.specs.Stands.{Rests};
 
-use crate::answer::{Answer, Answers};
+use answer_text::{Answer, Answers, Group, stream_group};
 use crate::ending::Ending;
-use crate::group::Group;
-use crate::replay::put::put_group;
 use crate::store::Store;
 use blob_source::Sink;
-use blob_words::{Limits, NoMemory, Octets, Tally};
+use blob_words::{Failed, Limits, NoMemory, Tally};
 use session_script::Event;
 use std::alloc::Global;
 
@@ -39,20 +37,19 @@ fn opening(alloc: Global, limits: Limits) -> Result<Group, NoMemory>
 pub fn open_with<K: Sink>(
     alloc: Global,
     limits: Limits,
-    text: &mut Octets,
     out: &mut K,
 ) -> Result<Store, Ending>
     ensures opened { MatchResult result
         (λ store. Rests limits store start × Appends (K.held out.old) (K.held out.new) (group_text (opening limits)))
-        (IsCut (K.held out.old) (K.held out.new)) }
+        (IsUnwritten (group_text (opening limits)) (K.held out.old) (K.held out.new)) }
     ensures cause { result ≡ Err Ending.SinkFailed → Rose (K.faults out.old) (K.faults out.new) }
     ensures later { K.faults out.old ≤ K.faults out.new }
 {
     let Ok(group) = opening(alloc, limits) else {
         return Err(Ending::NoMemory);
     };
-    match put_group(&group, text, out) {
+    match stream_group(&group, out) {
         Ok(()) => Ok(Store::new(alloc, limits)),
-        Err(ending) => Err(ending),
+        Err(Failed) => Err(Ending::SinkFailed),
     }
 }

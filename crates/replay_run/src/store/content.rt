@@ -1,5 +1,7 @@
 ghost use Rattle.std.specs.Prelude.{◌≡◌, ◌+◌, ◌<◌, ◌≤◌, ◌^◌, length, take, drop, flat_map, IfOk, MatchOption};
+ghost use Rattle.std.specs.List.{list_all};
 ghost use Rattle.replay_run.specs.Builds.{part_bytes};
+ghost use Rattle.replay_run.specs.Own.{is_embedded, is_plain};
 ghost use Rattle.replay_run.specs.Measure.{byte_total, piece_total};
 ghost use Rattle.replay_run.specs.Plan.{plan_for};
 
@@ -16,13 +18,42 @@ pub struct Measure {
     pub pieces: u64,
 }
 
-/// The bytes that stand in a part.
+/// The bytes that stand in a part; none of the parts that name bytes elsewhere.
 pub fn part_bytes(part: &Part) -> &[u8]
     ensures { result.now ≡ part_bytes part.now }
 {
     match part {
         Part::Embedded(bytes) => bytes.as_slice(),
+        Part::Asked(_) => &[],
+        Part::FileRange { .. } => &[],
+        Part::BlobRange { .. } => &[],
+        Part::HandleRange { .. } => &[],
     }
+}
+
+fn is_embedded(part: &Part) -> bool
+    ensures { result ≡ is_embedded part.now }
+{
+    match part {
+        Part::Embedded(_) => true,
+        Part::Asked(_) => false,
+        Part::FileRange { .. } => false,
+        Part::BlobRange { .. } => false,
+        Part::HandleRange { .. } => false,
+    }
+}
+
+fn are_embedded(parts: &[Part]) -> bool
+    ensures { result ≡ list_all is_embedded parts.now }
+{
+    parts.iter().all(|part| is_embedded(part))
+}
+
+/// Whether a build is one of no content type and of bytes that stand in the line.
+pub fn is_plain(kind: &[u8], parts: &[Part]) -> bool
+    ensures { result ≡ is_plain kind.now parts.now }
+{
+    kind.is_empty() && are_embedded(parts)
 }
 
 /// The bytes and pieces of the parts; nothing where they have more than `most` bytes.

@@ -7,10 +7,9 @@ use Rattle.session_script.specs.Line.{line_of}
 use Rattle.blob_source.specs.Faults.{Rose}
 use Rattle.replay_run.specs.declared.ending.Ending.TheVariants.{NoMemory}
 use Rattle.replay_run.specs.Legal.{opening}
-use Rattle.replay_run.specs.Puts.{IsCut}
-use Rattle.replay_run.specs.Text.{group_text}
-use Rattle.replay_run.specs.Reads.{limits_of}
-use Rattle.replay_run.specs.Turns.{EndsAt}
+use Rattle.answer_text.specs.Text.{group_text}
+use Rattle.replay_run.specs.Puts.{IsUnwritten}
+use Rattle.replay_run.specs.Turns.{EndsAt, IsOpening, IsOutFirst}
 use Rattle.replay_run.proofs.GoingLemmas.{HasCause-earlier}
 use Rattle.replay_run.proofs.OpeningLemmas.{ended-first, ended-cut, replayed}
 use Rattle.replay_run.proofs.replay.replay.Goals as goal
@@ -30,7 +29,7 @@ returns-in-Err-clause-replay g c =
     let ready = ap (λ reader. reader.last) c.in-Ok.ensures in
     let same = ap (λ reader. prepend_known reader.ahead told) c.in-Ok.ensures ∙ prepend_known-nil told in
     ended-first told held held' (g.S.Source.faults c.args.session.now) (g.S.Source.faults c.take_limits.new.session) (g.K.Sink.faults c.args.out.now) (g.K.Sink.faults c.take_limits.new.out)
-    c.in-Err.ending (c.in-Err.ensures.cause ready) (subst (λ (bytes : Option (List ℕ)). EndsAt (λ event. limits_of event ≡ None) 1 bytes held held' c.in-Err.ending) same (c.in-Err.ensures.refused ready))
+    c.in-Err.ending (c.in-Err.ensures.cause ready) (subst (λ (bytes : Option (List ℕ)). EndsAt IsOpening IsOutFirst 1 bytes held held' c.in-Err.ending) same (c.in-Err.ensures.refused ready))
 
 pub returns-in-Err-open_with-clause-replay : goal.returns-in-Err-open_with-clause-replay
 returns-in-Err-open_with-clause-replay g c =
@@ -39,9 +38,13 @@ returns-in-Err-open_with-clause-replay g c =
     let sink' = g.K.Sink.faults c.open_with.new.out in
     let first = c.in-Ok-take_limits.ensures.limits (ap (λ reader. reader.last) c.in-Ok.ensures) in
     let ending = c.in-Err-open_with.ending in
-    ended-cut told (g.K.Sink.held c.args.out.now) held' (g.S.Source.faults c.args.session.now) (g.S.Source.faults c.take_limits.new.session) (g.K.Sink.faults c.args.out.now) sink' ending
+    let same = ap (λ reader. prepend_known reader.ahead told) c.in-Ok.ensures ∙ prepend_known-nil told in
+    let limits = c.in-Ok-take_limits.limits in
+    let unread = prepend_known c.take_limits.new.reader.ahead (g.S.Source.left c.take_limits.new.session) in
+    ended-cut told (g.K.Sink.held c.args.out.now) held' (g.S.Source.faults c.args.session.now) (g.S.Source.faults c.take_limits.new.session) (g.K.Sink.faults c.args.out.now) sink' limits unread held' first.0
+    (subst (λ (bytes : Option (List ℕ)). Consumes bytes unread (line_of (events.Limits limits) ++ 10 ∷ [])) same first.3) ending
     (λ same. subst (λ out. Rose (g.K.Sink.faults out) sink') first.1 (c.in-Err-open_with.ensures.cause (ap (λ e. Err e) same)))
-    (subst (λ out. IsCut (g.K.Sink.held out) held' ending) first.1 c.in-Err-open_with.ensures.opened)
+    (subst (λ out. IsUnwritten (group_text (opening limits)) (g.K.Sink.held out) held' ending) first.1 c.in-Err-open_with.ensures.opened)
 
 pub returns-clause-replay : goal.returns-clause-replay
 returns-clause-replay g c =

@@ -1,7 +1,7 @@
 -- The second step gives the byte of the blob.
 use Rattle.std.proofs.Common.{◌≡◌, ℕ, List, [], ◌∷◌, Some, codes, ap, arith}
 use Rattle.std.specs.Prelude.{slice_index}
-use Rattle.replay_run.specs.declared.answer.Answer.TheVariants as answers
+use Rattle.answer_text.specs.declared.answer.Answer.TheVariants as answers
 use Rattle.replay_run.specs.Rows.{after_limits, reader}
 use Rattle.replay_run.proofs.RowLemmas.{behind_limits}
 use Rattle.replay_run.proofs.rows.wrong_byte_is_refused.Goals as goal

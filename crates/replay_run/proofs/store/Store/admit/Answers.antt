@@ -6,7 +6,7 @@ use Rattle.std.proofs.lemmas.Bool.{leb-false}
 use Rattle.session_script.specs.declared.event.Part.{Part}
 use Rattle.blob_words.specs.declared.limits.Limits.{Limits}
 use Rattle.blob_words.specs.declared.tally.Tally.{Tally}
-use Rattle.replay_run.specs.declared.answer.Answer.TheVariants as answers
+use Rattle.answer_text.specs.declared.answer.Answer.TheVariants as answers
 use Rattle.replay_run.specs.declared.store.Store.{Store}
 use Rattle.replay_run.specs.History.{History}
 use Rattle.replay_run.specs.Builds.{builds, is_built, part_bytes}

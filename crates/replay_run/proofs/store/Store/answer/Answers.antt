@@ -7,7 +7,3 @@ use Rattle.replay_run.proofs.store.Store.answer.Goals as goal
 pub returns-in-Spawn : goal.returns-in-Spawn
 returns-in-Spawn c l h stands =
     subst (λ (event : Event). Answered l h event c.spawn.new.self c.spawn.result) (sym c.in-Spawn.is) (c.spawn.ensures l h c.in-Spawn.origin stands)
-
-pub returns-in-Build : goal.returns-in-Build
-returns-in-Build c l h stands =
-    subst (λ (event : Event). Answered l h event c.build.new.self c.build.result) (sym c.in-Build.is) (c.build.ensures l h c.in-Build.kind stands)

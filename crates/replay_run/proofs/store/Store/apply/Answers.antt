@@ -1,6 +1,6 @@
 -- The group is that of the line.
 use Rattle.std.proofs.Common.{◌≡◌, List, [], refl, sym, subst}
-use Rattle.replay_run.specs.declared.answer.Answer.{Answer}
+use Rattle.answer_text.specs.declared.answer.Answer.{Answer}
 use Rattle.replay_run.specs.History.{after}
 use Rattle.replay_run.specs.Legal.{IsLegalGroup}
 use Rattle.replay_run.specs.Settle.{unfinished}

@@ -1,6 +1,6 @@
 -- The reader is opened at the range that was asked for.
 use Rattle.std.proofs.Common.{◌≡◌, ℕ, ◌≤◌, true, List, [], ◌∷◌, ◌++◌, Some, sym, ap, ◌∙◌, subst}
-use Rattle.replay_run.specs.declared.answer.Answer.TheVariants as answers
+use Rattle.answer_text.specs.declared.answer.Answer.TheVariants as answers
 use Rattle.replay_run.specs.declared.store.reader.Reader.{Reader}
 use Rattle.replay_run.specs.Builds.{size_of}
 use Rattle.replay_run.specs.Readers.{range_end}

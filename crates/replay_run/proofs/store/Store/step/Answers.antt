@@ -2,7 +2,7 @@
 use Rattle.std.proofs.Common.{◌≡◌, ◌+◌, ◌-◌, ◌==◌, false, min, length, take, drop, Some, refl, sym, ◌∙◌, ap, arith}
 use Rattle.std.proofs.lemmas.Bool.{ne_eqb}
 use Rattle.blob_words.specs.declared.status.Status.TheVariants as statuses
-use Rattle.replay_run.specs.declared.answer.Answer.TheVariants as answers
+use Rattle.answer_text.specs.declared.answer.Answer.TheVariants as answers
 use Rattle.replay_run.specs.declared.store.reader.Reader.{Reader}
 use Rattle.replay_run.specs.Shelf.{blob_at, bytes_in}
 use Rattle.replay_run.specs.Chunk.{left}

@@ -1,0 +1,50 @@
+//! The last line of a session that was refused.
+
+ghost use Rattle.std.specs.Prelude.{◌≡◌, ◌∷◌, [], codes, decimal};
+ghost use Rattle.session_script.specs.Fields.{joined};
+ghost use Rattle.session_script.specs.Output.{output, IsPut};
+ghost use Rattle.replay_run.specs.Reason.{reason_text};
+
+use crate::reason::Reason;
+use answer_text::literal::Literal;
+use blob_source::Sink;
+use blob_words::Failed;
+use session_script::buffer::Buffer;
+use session_script::field::Spell;
+use session_script::put::put_two;
+
+/// `!`, the number of the line that was refused, from 1, and why.
+#[derive(Clone, Copy, Debug, PartialEq, Eq)]
+pub struct RefusalLine {
+    pub number: u32,
+    pub reason: Reason,
+}
+
+fn put_words<K: Sink>(
+    buffer: &mut Buffer,
+    out: &mut K,
+    line: &RefusalLine,
+) -> Result<(), Failed>
+    ensures { IsPut (output (K.held out.old) (K.faults out.old) buffer.old) (output (K.held out.new) (K.faults out.new) buffer.new) (joined 32 (codes "!" ∷ decimal line.now.number ∷ reason_text line.now.reason ∷ [])) result }
+{
+    let word = Literal {
+        text: line.reason.text(),
+    };
+    match buffer.put_byte(out, b'!') {
+        Ok(()) => put_two(buffer, out, b' ', &line.number, &word),
+        Err(Failed) => Err(Failed),
+    }
+}
+
+impl Spell for RefusalLine {
+    ghost use Rattle.replay_run.specs.Text.{refusal_line};
+
+    ghost spell = { λ line. refusal_line line.number line.reason };
+
+    fn put<K: Sink>(&self, buffer: &mut Buffer, out: &mut K) -> Result<(), Failed> {
+        match put_words(buffer, out, self) {
+            Ok(()) => buffer.put_byte(out, b'\n'),
+            Err(Failed) => Err(Failed),
+        }
+    }
+}
