@@ -20,11 +20,7 @@ pub struct RefusalLine {
     pub reason: Reason,
 }
 
-fn put_words<K: Sink>(
-    buffer: &mut Buffer,
-    out: &mut K,
-    line: &RefusalLine,
-) -> Result<(), Failed>
+fn put_words<K: Sink>(buffer: &mut Buffer, out: &mut K, line: &RefusalLine) -> Result<(), Failed>
     ensures { IsPut (output (K.held out.old) (K.faults out.old) buffer.old) (output (K.held out.new) (K.faults out.new) buffer.new) (joined 32 (codes "!" ∷ decimal line.now.number ∷ reason_text line.now.reason ∷ [])) result }
 {
     let word = Literal {

@@ -10,7 +10,6 @@ pub mod shelf;
 ghost use Rattle.std.specs.Prelude.{◌≡◌, ℕ, List, [], ◌∷◌, map, IfOk, IfErr, option_to_list};
 ghost use Rattle.replay_run.specs.Settle.{unfinished_after};
 
-use answer_text::{Answer, Answers, Group, Refusal};
 use crate::store::admitted::Admitted;
 use crate::store::blob::Blob;
 use crate::store::content::{is_plain, joined, measure_parts, plan_for, range};
@@ -18,6 +17,7 @@ use crate::store::fault::ApplyFault;
 use crate::store::reader::Reader;
 use crate::store::readers::Readers;
 use crate::store::shelf::Shelf;
+use answer_text::{Answer, Answers, Group, Refusal};
 use blob_words::{BlobName, Limits, Octets, ReaderId, RendererId, Status, Tally};
 use indexmap::IndexSet;
 use session_script::{Event, Part, Parts};

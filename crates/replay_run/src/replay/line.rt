@@ -17,8 +17,8 @@ use crate::replay::put::{refuse, refuse_fault};
 use crate::store::Store;
 use crate::store::fault::ApplyFault;
 use crate::turn::Turn;
-use blob_source::{LineReader, LineStep, Sink, Source};
 use answer_text::stream_group;
+use blob_source::{LineReader, LineStep, Sink, Source};
 use blob_words::{Failed, Limits};
 use session_script::{Event, read_line};
 use std::alloc::Global;
@@ -105,11 +105,7 @@ fn limits_of(event: Event) -> Option<Limits>
 }
 
 /// Reads the limits from the first line.
-fn read_limits<K: Sink>(
-    alloc: Global,
-    line: &[u8],
-    out: &mut K,
-) -> Result<Limits, Ending>
+fn read_limits<K: Sink>(alloc: Global, line: &[u8], out: &mut K) -> Result<Limits, Ending>
     ensures limits { length line.now ≤ 2 ^ 20 → IfOk result (λ limits. IsLineOf (events.Limits limits) × (line.now ≡ line_of (events.Limits limits)) × (out.new ≡ out.old)) }
     ensures refused { (unread unread' : Option (List ℕ)) → length line.now ≤ 2 ^ 20 → has_line_feed line.now ≡ false → Consumes unread unread' (line.now ++ 10 ∷ [])
         → IfErr result (EndsAt IsOpening IsOutFirst 1 unread (K.held out.old) (K.held out.new)) }

@@ -7,9 +7,9 @@ ghost use Rattle.answer_text.specs.Text.{group_text};
 ghost use Rattle.replay_run.specs.Puts.{IsUnwritten};
 ghost use Rattle.replay_run.specs.Stands.{Rests};
 
-use answer_text::{Answer, Answers, Group, stream_group};
 use crate::ending::Ending;
 use crate::store::Store;
+use answer_text::{Answer, Answers, Group, stream_group};
 use blob_source::Sink;
 use blob_words::{Failed, Limits, NoMemory, Tally};
 use session_script::Event;
@@ -34,11 +34,7 @@ fn opening(alloc: Global, limits: Limits) -> Result<Group, NoMemory>
 }
 
 /// Opens the session of these limits: makes its store and writes the group of their line.
-pub fn open_with<K: Sink>(
-    alloc: Global,
-    limits: Limits,
-    out: &mut K,
-) -> Result<Store, Ending>
+pub fn open_with<K: Sink>(alloc: Global, limits: Limits, out: &mut K) -> Result<Store, Ending>
     ensures opened { MatchResult result
         (λ store. Rests limits store start × Appends (K.held out.old) (K.held out.new) (group_text (opening limits)))
         (IsUnwritten (group_text (opening limits)) (K.held out.old) (K.held out.new)) }

@@ -1,5 +1,5 @@
 -- What each way out of a replay is.
-use Rattle.std.proofs.Common.{◌≡◌, ◌∷◌, ◌++◌, ℕ, List, [], Option, None, Err, subst, ap, ◌∙◌, arith}
+use Rattle.std.proofs.Common.{◌∷◌, ◌++◌, ℕ, List, [], Option, Err, subst, ap, ◌∙◌, arith}
 use Rattle.std.specs.Io.KnownBytes.{prepend_known, Appends, Consumes}
 use Rattle.std.proofs.KnownBytes.{Appends-nil, prepend_known-nil}
 use Rattle.session_script.specs.declared.event.Event.TheVariants as events

@@ -1,8 +1,7 @@
 -- A build that is admitted answers its plan.
-use Rattle.std.proofs.Common.{◌≡◌, true, List, Option, None, sym, ap, ◌∙◌, subst, if◌then◌else◌, Bool}
+use Rattle.std.proofs.Common.{◌≡◌, true, List, None, sym, ap, ◌∙◌, subst, if◌then◌else◌, Bool}
 use Rattle.session_script.specs.declared.event.Event.TheVariants as events
 use Rattle.session_script.specs.declared.event.Part.{Part}
-use Rattle.answer_text.specs.declared.answer.Answer.{Answer}
 use Rattle.answer_text.specs.declared.answer.Answer.TheVariants as answers
 use Rattle.replay_run.specs.History.{heard}
 use Rattle.replay_run.specs.Live.{is_spawned}
