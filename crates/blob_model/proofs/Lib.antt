@@ -1,0 +1,5 @@
+pub mod Same
+pub mod SameAnswer
+pub mod Check
+pub mod Checks
+pub mod Sessions

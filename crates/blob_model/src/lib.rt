@@ -1,0 +1,4 @@
+//! What a legal transcript is.
+#![tactic(auto)]
+
+pub mod rows;
