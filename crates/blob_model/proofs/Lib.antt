@@ -3,3 +3,8 @@ pub mod SameAnswer
 pub mod Check
 pub mod Checks
 pub mod Sessions
+pub mod ChangeLemmas
+pub mod FrontLemmas
+pub mod SingleLemmas
+pub mod OneLemmas
+pub mod ReachLemmas

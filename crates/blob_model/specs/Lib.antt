@@ -50,3 +50,5 @@ pub mod WrongBroken
 pub mod WrongChains
 pub mod WrongVersions
 pub mod WrongCompaction
+pub mod Laws
+pub mod LegalLaws

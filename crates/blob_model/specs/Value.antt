@@ -19,6 +19,11 @@ value s h (sent blob index) = option_and_then (λ (build : Build). sent_byte s.l
 value s h (filed name stamp index) = option_and_then (λ (bytes : List ℕ). slice_get bytes index) (content h name stamp)
 value s h (lent slot index) = option_and_then (λ (bytes : List ℕ). slice_get bytes index) (slot_bytes s.outside slot)
 
+-- whether there is an object in the slot, and it tells nothing
+abbrev pub tells_nothing : Option Slot → Bool
+tells_nothing None = false
+tells_nothing (Some object) = is_none object.bytes
+
 abbrev pub is_in_page : Place → Bool
 is_in_page (in_page number) = true
 is_in_page at = false
@@ -31,7 +36,7 @@ is_paged page h cell = option_map_or (λ (piece : Piece). is_in_page (place page
 abbrev pub is_untold : Session → History → Cell → Bool
 is_untold s h (sent blob index) = elim (s.outside.disk_tells) [ true ↦ false | false ↦ is_paged s.limits.page h (sent blob index) ]
 is_untold s h (filed name stamp index) = false
-is_untold s h (lent slot index) = is_none (slot_bytes s.outside slot)
+is_untold s h (lent slot index) = tells_nothing (slice_get s.outside.slots slot)
 
 abbrev pub is_byte : Option ℕ → ℕ → Bool
 is_byte None byte = false

@@ -25,8 +25,8 @@ abbrev pub moved_more : Worked
 moved_more = replaced 1 (group (events.Build (renderer 1) 1 [] (parts.Embedded (1 ∷ []) ∷ [])) (answers.Planned plans.Inline ∷ answers.Done 1 ∷ answers.Dropped 1 ∷ []) 1 1 0 0) moved
 
 -- moved: the whole page file is copied
-abbrev pub moved_the_whole_page_file_is_copied : Worked
-moved_the_whole_page_file_is_copied = replaced 6 (group (events.Disk (job_no 1)) (answers.Moved (job_no 1) (page_no 1) (piece_list (0 ∷ 1 ∷ [])) ∷ answers.Removed (page_no 0) ∷ []) 2 8 1 7) moved
+abbrev pub moved_whole_copied : Worked
+moved_whole_copied = replaced 6 (group (events.Disk (job_no 1)) (answers.Moved (job_no 1) (page_no 1) (piece_list (0 ∷ 1 ∷ [])) ∷ answers.Removed (page_no 0) ∷ []) 2 8 1 7) moved
 
 -- move_unread: another plan
 abbrev pub move_unread_other_plan : Worked
@@ -99,7 +99,7 @@ wrong_compaction =
     ∷ moved_other_tally
     ∷ moved_less
     ∷ moved_more
-    ∷ moved_the_whole_page_file_is_copied
+    ∷ moved_whole_copied
     ∷ move_unread_other_plan
     ∷ move_unread_other_tally
     ∷ move_unread_less

@@ -25,16 +25,16 @@ abbrev pub page_job_more : Worked
 page_job_more = replaced 1 (group (events.Build (renderer 1) 1 [] (parts.Embedded (codes "abcd") ∷ [])) (answers.Planned plans.Inline ∷ answers.Done 1 ∷ answers.Dropped 1 ∷ []) 1 4 0 0) page_job
 
 -- page_job: the latest use is paged first
-abbrev pub page_job_the_latest_use_is_paged_first : Worked
-page_job_the_latest_use_is_paged_first = replaced 4 (group (events.Build (renderer 1) 3 [] (parts.Asked 5 ∷ [])) (answers.Planned (plans.Shared 2) ∷ answers.Job (job_no 0) (piece_list (1 ∷ 0 ∷ [])) ∷ []) 2 8 0 8) page_job
+abbrev pub page_job_latest_first : Worked
+page_job_latest_first = replaced 4 (group (events.Build (renderer 1) 3 [] (parts.Asked 5 ∷ [])) (answers.Planned (plans.Shared 2) ∷ answers.Job (job_no 0) (piece_list (1 ∷ 0 ∷ [])) ∷ []) 2 8 0 8) page_job
 
 -- page_job: pieces are paged when the job starts
-abbrev pub page_job_pieces_are_paged_when_the_job_starts : Worked
-page_job_pieces_are_paged_when_the_job_starts = replaced 4 (group (events.Build (renderer 1) 3 [] (parts.Asked 5 ∷ [])) (answers.Planned (plans.Shared 2) ∷ answers.Job (job_no 0) (piece_list (0 ∷ 1 ∷ [])) ∷ []) 2 0 0 8) page_job
+abbrev pub page_job_paged_too_early : Worked
+page_job_paged_too_early = replaced 4 (group (events.Build (renderer 1) 3 [] (parts.Asked 5 ∷ [])) (answers.Planned (plans.Shared 2) ∷ answers.Job (job_no 0) (piece_list (0 ∷ 1 ∷ [])) ∷ []) 2 0 0 8) page_job
 
 -- page_job: a paged piece is kept in memory too
-abbrev pub page_job_a_paged_piece_is_kept_in_memory_too : Worked
-page_job_a_paged_piece_is_kept_in_memory_too = replaced 7 (group (events.Disk (job_no 0)) (answers.Paged (job_no 0) (page_no 0) (piece_list (0 ∷ [])) ∷ []) 1 4 1 4) page_job
+abbrev pub page_job_copy_kept : Worked
+page_job_copy_kept = replaced 7 (group (events.Disk (job_no 0)) (answers.Paged (job_no 0) (page_no 0) (piece_list (0 ∷ [])) ∷ []) 1 4 1 4) page_job
 
 -- page_unread: another byte
 abbrev pub page_unread_other_byte : Worked
@@ -69,12 +69,12 @@ abbrev pub page_failed_more : Worked
 page_failed_more = replaced 1 (group (events.Build (renderer 1) 1 [] (parts.Embedded (codes "abcd") ∷ [])) (answers.Planned plans.Inline ∷ answers.Done 1 ∷ answers.Dropped 1 ∷ []) 1 4 0 0) page_failed
 
 -- page_failed: a failed write drops the pieces
-abbrev pub page_failed_a_failed_write_drops_the_pieces : Worked
-page_failed_a_failed_write_drops_the_pieces = replaced 7 (group (events.Disk (job_no 0)) (answers.PageFailed (job_no 0) (page_no 0) ∷ answers.Granted 3 ∷ []) 1 5 0 0) page_failed
+abbrev pub page_failed_pieces_dropped : Worked
+page_failed_pieces_dropped = replaced 7 (group (events.Disk (job_no 0)) (answers.PageFailed (job_no 0) (page_no 0) ∷ answers.Granted 3 ∷ []) 1 5 0 0) page_failed
 
 -- page_failed: and their bytes are gone
-abbrev pub page_failed_and_their_bytes_are_gone : Worked
-page_failed_and_their_bytes_are_gone = replaced 9 (group (events.Step (reader 2)) (answers.PageFault (reader 2) (page_no 0) ∷ []) 1 4 0 0) page_failed
+abbrev pub page_failed_bytes_gone : Worked
+page_failed_bytes_gone = replaced 9 (group (events.Step (reader 2)) (answers.PageFault (reader 2) (page_no 0) ∷ []) 1 4 0 0) page_failed
 
 -- page_left: another byte
 abbrev pub page_left_other_byte : Worked
@@ -115,9 +115,9 @@ wrong_paging =
     ∷ page_job_other_tally
     ∷ page_job_less
     ∷ page_job_more
-    ∷ page_job_the_latest_use_is_paged_first
-    ∷ page_job_pieces_are_paged_when_the_job_starts
-    ∷ page_job_a_paged_piece_is_kept_in_memory_too
+    ∷ page_job_latest_first
+    ∷ page_job_paged_too_early
+    ∷ page_job_copy_kept
     ∷ page_unread_other_byte
     ∷ page_unread_other_tally
     ∷ page_unread_less
@@ -126,8 +126,8 @@ wrong_paging =
     ∷ page_failed_other_tally
     ∷ page_failed_less
     ∷ page_failed_more
-    ∷ page_failed_a_failed_write_drops_the_pieces
-    ∷ page_failed_and_their_bytes_are_gone
+    ∷ page_failed_pieces_dropped
+    ∷ page_failed_bytes_gone
     ∷ page_left_other_byte
     ∷ page_left_other_tally
     ∷ page_left_less

@@ -40,8 +40,8 @@ abbrev pub head_first_more : Worked
 head_first_more = replaced 1 (group (events.Build (renderer 1) 1 [] (parts.Asked 4 ∷ [])) (answers.Planned (plans.Shared 1) ∷ answers.Granted 1 ∷ answers.Done 1 ∷ []) 1 4 0 0) head_first
 
 -- head_first: a later blob that fits is granted before the head
-abbrev pub head_first_a_later_blob_that_fits_is_granted_before_the_head : Worked
-head_first_a_later_blob_that_fits_is_granted_before_the_head = replaced 3 (group (events.Build (renderer 1) 3 [] (parts.Embedded (codes "ab") ∷ [])) (answers.Planned (plans.Shared 1) ∷ answers.Granted 3 ∷ []) 2 6 0 0) head_first
+abbrev pub head_first_head_overtaken : Worked
+head_first_head_overtaken = replaced 3 (group (events.Build (renderer 1) 3 [] (parts.Embedded (codes "ab") ∷ [])) (answers.Planned (plans.Shared 1) ∷ answers.Granted 3 ∷ []) 2 6 0 0) head_first
 
 -- all of these
 abbrev pub wrong_quota : List Worked
@@ -54,5 +54,5 @@ wrong_quota =
     ∷ head_first_other_tally
     ∷ head_first_less
     ∷ head_first_more
-    ∷ head_first_a_later_blob_that_fits_is_granted_before_the_head
+    ∷ head_first_head_overtaken
     ∷ []

@@ -25,12 +25,12 @@ abbrev pub short_reads_more : Worked
 short_reads_more = replaced 1 (group (events.Build (renderer 1) 1 [] (parts.Embedded (codes "abc") ∷ [])) (answers.Planned plans.Inline ∷ answers.Done 1 ∷ answers.Dropped 1 ∷ []) 1 3 0 0) short_reads
 
 -- short_reads: every step waits
-abbrev pub short_reads_every_step_waits : Worked
-short_reads_every_step_waits = replaced 3 (group (events.Step (reader 7)) (answers.Wait (reader 7) ∷ []) 1 3 0 0) short_reads
+abbrev pub short_reads_always_waiting : Worked
+short_reads_always_waiting = replaced 3 (group (events.Step (reader 7)) (answers.Wait (reader 7) ∷ []) 1 3 0 0) short_reads
 
 -- short_reads: every build breaks
-abbrev pub short_reads_every_build_breaks : Worked
-short_reads_every_build_breaks = replaced 1 (group (events.Build (renderer 1) 1 [] (parts.Embedded (codes "abc") ∷ [])) (answers.Broken 1 statuses.OutOfMemory ∷ []) 0 0 0 0) short_reads
+abbrev pub short_reads_always_breaking : Worked
+short_reads_always_breaking = replaced 1 (group (events.Build (renderer 1) 1 [] (parts.Embedded (codes "abc") ∷ [])) (answers.Broken 1 statuses.OutOfMemory ∷ []) 0 0 0 0) short_reads
 
 -- slices: another byte
 abbrev pub slices_other_byte : Worked
@@ -49,8 +49,8 @@ abbrev pub slices_more : Worked
 slices_more = replaced 1 (group (events.Build (renderer 1) 1 [] (parts.Embedded (codes "hello") ∷ [])) (answers.Planned plans.Inline ∷ answers.Done 1 ∷ answers.Dropped 1 ∷ []) 1 5 0 0) slices
 
 -- slices: the start is raised to 0 before the size is added
-abbrev pub slices_the_start_is_raised_to_0_before_the_size_is_added : Worked
-slices_the_start_is_raised_to_0_before_the_size_is_added = replaced 6 (group (events.Step (reader 1)) (answers.Ended (reader 1) statuses.Done ∷ []) 1 5 0 0) (replaced 5 (group (events.Read (renderer 1) (reader 1) 2 0 None) (answers.Opened (reader 1) 0 [] ∷ []) 1 5 0 0) slices)
+abbrev pub slices_start_raised_first : Worked
+slices_start_raised_first = replaced 6 (group (events.Step (reader 1)) (answers.Ended (reader 1) statuses.Done ∷ []) 1 5 0 0) (replaced 5 (group (events.Read (renderer 1) (reader 1) 2 0 None) (answers.Opened (reader 1) 0 [] ∷ []) 1 5 0 0) slices)
 
 -- cuts: another byte
 abbrev pub cuts_other_byte : Worked
@@ -69,8 +69,8 @@ abbrev pub cuts_more : Worked
 cuts_more = replaced 1 (group (events.Build (renderer 1) 1 [] (parts.Embedded (1 ∷ 2 ∷ 3 ∷ 4 ∷ 5 ∷ 6 ∷ 7 ∷ 8 ∷ []) ∷ [])) (answers.Planned plans.Inline ∷ answers.Done 1 ∷ answers.Dropped 1 ∷ []) 2 8 0 0) cuts
 
 -- cuts: the pieces are freed with their builder's blob
-abbrev pub cuts_the_pieces_are_freed_with_their_builder_blob : Worked
-cuts_the_pieces_are_freed_with_their_builder_blob = replaced 4 (group (events.Drop (renderer 1) 1) (answers.Good ∷ []) 0 0 0 0) cuts
+abbrev pub cuts_freed_with_builder : Worked
+cuts_freed_with_builder = replaced 4 (group (events.Drop (renderer 1) 1) (answers.Good ∷ []) 0 0 0 0) cuts
 
 -- one_piece_stays: another plan
 abbrev pub one_piece_stays_other_plan : Worked
@@ -89,8 +89,8 @@ abbrev pub one_piece_stays_more : Worked
 one_piece_stays_more = replaced 1 (group (events.Build (renderer 1) 1 [] (parts.Embedded (1 ∷ 2 ∷ 3 ∷ 4 ∷ 5 ∷ 6 ∷ 7 ∷ 8 ∷ []) ∷ [])) (answers.Planned plans.Inline ∷ answers.Done 1 ∷ answers.Dropped 1 ∷ []) 2 8 0 0) one_piece_stays
 
 -- one_piece_stays: a slice keeps all of its source
-abbrev pub one_piece_stays_a_slice_keeps_all_of_its_source : Worked
-one_piece_stays_a_slice_keeps_all_of_its_source = replaced 3 (group (events.Drop (renderer 1) 1) (answers.Good ∷ []) 2 8 0 0) one_piece_stays
+abbrev pub one_piece_stays_all_kept : Worked
+one_piece_stays_all_kept = replaced 3 (group (events.Drop (renderer 1) 1) (answers.Good ∷ []) 2 8 0 0) one_piece_stays
 
 -- viewed_twice: another byte
 abbrev pub viewed_twice_other_byte : Worked
@@ -115,23 +115,23 @@ wrong_reads =
     ∷ short_reads_other_tally
     ∷ short_reads_less
     ∷ short_reads_more
-    ∷ short_reads_every_step_waits
-    ∷ short_reads_every_build_breaks
+    ∷ short_reads_always_waiting
+    ∷ short_reads_always_breaking
     ∷ slices_other_byte
     ∷ slices_other_tally
     ∷ slices_less
     ∷ slices_more
-    ∷ slices_the_start_is_raised_to_0_before_the_size_is_added
+    ∷ slices_start_raised_first
     ∷ cuts_other_byte
     ∷ cuts_other_tally
     ∷ cuts_less
     ∷ cuts_more
-    ∷ cuts_the_pieces_are_freed_with_their_builder_blob
+    ∷ cuts_freed_with_builder
     ∷ one_piece_stays_other_plan
     ∷ one_piece_stays_other_tally
     ∷ one_piece_stays_less
     ∷ one_piece_stays_more
-    ∷ one_piece_stays_a_slice_keeps_all_of_its_source
+    ∷ one_piece_stays_all_kept
     ∷ viewed_twice_other_byte
     ∷ viewed_twice_other_tally
     ∷ viewed_twice_less

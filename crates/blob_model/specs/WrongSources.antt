@@ -24,8 +24,8 @@ abbrev pub file_changes_more : Worked
 file_changes_more = replaced 2 (group (events.Build (renderer 1) 1 [] (parts.FileRange (codes "a.txt") 1 4 5 ∷ [])) (answers.Planned plans.None ∷ answers.Done 1 ∷ answers.Dropped 1 ∷ []) 0 0 0 0) file_changes
 
 -- file_changes: a file is looked at when its reader opens alone
-abbrev pub file_changes_a_file_is_looked_at_when_its_reader_opens_alone : Worked
-file_changes_a_file_is_looked_at_when_its_reader_opens_alone = replaced 7 (group (events.Step (reader 1)) (answers.Given (reader 1) (codes "lo") ∷ []) 0 0 0 0) file_changes
+abbrev pub file_changes_checked_at_open : Worked
+file_changes_checked_at_open = replaced 7 (group (events.Step (reader 1)) (answers.Given (reader 1) (codes "lo") ∷ []) 0 0 0 0) file_changes
 
 -- blob_urls: another byte
 abbrev pub blob_urls_other_byte : Worked
@@ -44,12 +44,12 @@ abbrev pub blob_urls_more : Worked
 blob_urls_more = replaced 3 (group (events.Build (renderer 1) 1 [] (parts.Embedded (codes "abc") ∷ [])) (answers.Planned plans.Inline ∷ answers.Done 1 ∷ answers.Dropped 1 ∷ []) 1 3 0 0) blob_urls
 
 -- blob_urls: the URL of a dead renderer resolves
-abbrev pub blob_urls_the_url_of_a_dead_renderer_resolves : Worked
-blob_urls_the_url_of_a_dead_renderer_resolves = replaced 20 (group (events.Fetch (renderer 3) (reader 2) (codes "blob:https://a.test/00000000-0000-0000-0000-000000000009") 0 None) (answers.Opened (reader 2) 1 [] ∷ []) 1 1 0 0) (replaced 19 (group (events.Die (renderer 1)) (answers.Good ∷ []) 1 1 0 0) blob_urls)
+abbrev pub blob_urls_dead_url_held : Worked
+blob_urls_dead_url_held = replaced 20 (group (events.Fetch (renderer 3) (reader 2) (codes "blob:https://a.test/00000000-0000-0000-0000-000000000009") 0 None) (answers.Opened (reader 2) 1 [] ∷ []) 1 1 0 0) (replaced 19 (group (events.Die (renderer 1)) (answers.Good ∷ []) 1 1 0 0) blob_urls)
 
 -- blob_urls: and is resolved after its end
-abbrev pub blob_urls_and_is_resolved_after_its_end : Worked
-blob_urls_and_is_resolved_after_its_end = replaced 20 (group (events.Fetch (renderer 3) (reader 2) (codes "blob:https://a.test/00000000-0000-0000-0000-000000000009") 0 None) (answers.Opened (reader 2) 1 [] ∷ []) 0 0 0 0) blob_urls
+abbrev pub blob_urls_dead_url_resolved : Worked
+blob_urls_dead_url_resolved = replaced 20 (group (events.Fetch (renderer 3) (reader 2) (codes "blob:https://a.test/00000000-0000-0000-0000-000000000009") 0 None) (answers.Opened (reader 2) 1 [] ∷ []) 0 0 0 0) blob_urls
 
 -- data_handle: another byte
 abbrev pub data_handle_other_byte : Worked
@@ -74,13 +74,13 @@ wrong_sources =
     ∷ file_changes_other_tally
     ∷ file_changes_less
     ∷ file_changes_more
-    ∷ file_changes_a_file_is_looked_at_when_its_reader_opens_alone
+    ∷ file_changes_checked_at_open
     ∷ blob_urls_other_byte
     ∷ blob_urls_other_tally
     ∷ blob_urls_less
     ∷ blob_urls_more
-    ∷ blob_urls_the_url_of_a_dead_renderer_resolves
-    ∷ blob_urls_and_is_resolved_after_its_end
+    ∷ blob_urls_dead_url_held
+    ∷ blob_urls_dead_url_resolved
     ∷ data_handle_other_byte
     ∷ data_handle_other_tally
     ∷ data_handle_less

@@ -73,8 +73,8 @@ abbrev pub out_of_order_more : Worked
 out_of_order_more = replaced 1 (group (events.Build (renderer 1) 1 [] (parts.Asked 10 ∷ [])) (answers.Planned (plans.Shared 3) ∷ answers.Granted 1 ∷ answers.Done 1 ∷ []) 2 10 0 0) out_of_order
 
 -- out_of_order: segments are put together as they come
-abbrev pub out_of_order_segments_are_put_together_as_they_come : Worked
-out_of_order_segments_are_put_together_as_they_come = replaced 10 (group (events.Step (reader 1)) (answers.Given (reader 1) (codes "ijabcdef") ∷ []) 2 10 0 0) out_of_order
+abbrev pub out_of_order_by_arrival : Worked
+out_of_order_by_arrival = replaced 10 (group (events.Step (reader 1)) (answers.Given (reader 1) (codes "ijabcdef") ∷ []) 2 10 0 0) out_of_order
 
 -- all of these
 abbrev pub wrong_transit : List Worked
@@ -95,5 +95,5 @@ wrong_transit =
     ∷ out_of_order_other_tally
     ∷ out_of_order_less
     ∷ out_of_order_more
-    ∷ out_of_order_segments_are_put_together_as_they_come
+    ∷ out_of_order_by_arrival
     ∷ []

@@ -1,0 +1,38 @@
+ghost use Rattle.blob_model.specs.Laws.{ChangeLaws};
+ghost use Rattle.blob_model.specs.LegalLaws.{FrontsAreLegal, MoreIsLegal, OneTranscript, ReachedAreGranted, ThinStaysForRoom, DiskIsAtMostTwice};
+
+/// After which lines and answers alone each notion changes.
+pub fn notions_change()
+    ensures { ChangeLaws }
+{}
+
+/// Whatever a legal transcript begins with is legal.
+pub fn fronts_are_legal()
+    ensures { FrontsAreLegal }
+{}
+
+/// One more legal group makes a longer legal transcript.
+pub fn more_is_legal()
+    ensures { MoreIsLegal }
+{}
+
+/// Where the outside tells all, events have one legal transcript without a fault.
+pub fn transcript_is_one()
+    ensures { OneTranscript }
+{}
+
+/// Each reached piece is of a blob that was granted.
+pub fn reached_are_granted()
+    ensures { ReachedAreGranted }
+{}
+
+/// A thin page file stays only where the disk has no room for its reached pieces once more.
+pub fn thin_stays_for_room()
+    ensures { ThinStaysForRoom }
+{}
+
+/// Without a job in flight and a thin page file, the disk is charged at most twice the reached
+/// pieces in page files, and those that are reserved.
+pub fn disk_is_at_most_twice()
+    ensures { DiskIsAtMostTwice }
+{}
