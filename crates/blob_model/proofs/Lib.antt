@@ -8,3 +8,6 @@ pub mod FrontLemmas
 pub mod SingleLemmas
 pub mod OneLemmas
 pub mod ReachLemmas
+pub mod StepLemmas
+pub mod CellLemmas
+pub mod LiveLemmas

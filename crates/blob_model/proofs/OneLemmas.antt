@@ -39,7 +39,7 @@ one_answers s h a b all event x y e f =
     let same : own_a ≡ own_b = one_own s h a.event own_a own_b all x.is_own (rw (← event) at y.is_own) first second in
     let left : left_files a.answers ≡ left_files b.answers = no_left a.answers e ∙ sym (no_left b.answers f) in
     let moved : own_a ++ settle s (left_files a.answers) (after h a.event own_a) ≡ own_b ++ settle s (left_files b.answers) (after h b.event own_b) =
-        (λ i. same i ++ settle s (left i) (after h (event i) (same i))) in
+    (λ i. same i ++ settle s (left i) (after h (event i) (same i))) in
     x.settles ∙ moved ∙ sym y.settles
 
 one_group : (s : Session) (h : History) (a b : Group) → AllTold s.outside → a.event ≡ b.event → IsLegalGroup s h a → IsLegalGroup s h b → good a.answers ≡ true → good b.answers ≡ true → a ≡ b

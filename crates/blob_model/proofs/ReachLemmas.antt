@@ -105,8 +105,8 @@ pub at_most_twice : (s : Session) (h : History) → in_flight h ≡ None → All
     → disk s.limits.page h ≤ 2 * sum_by (reached_bytes s h) (files s.limits.page h) + bytes_of (reserved_of h (builds s.limits.page h) (reached s.limits.page h))
 at_most_twice s h idle thick =
     let each : AllByRecursion (λ (page : Page). page_size (pieces s.limits.page h) page ≤ 2 * reached_bytes s h page) (files s.limits.page h) =
-        for_all (λ (page : Page). is_thin_now s h page ≡ false) (λ (page : Page). page_size (pieces s.limits.page h) page ≤ 2 * reached_bytes s h page) (files s.limits.page h)
-        (λ page fat. ltb-false (2 * reached_bytes s h page) (page_size (pieces s.limits.page h) page) fat) thick in
+    for_all (λ (page : Page). is_thin_now s h page ≡ false) (λ (page : Page). page_size (pieces s.limits.page h) page ≤ 2 * reached_bytes s h page) (files s.limits.page h)
+    (λ page fat. ltb-false (2 * reached_bytes s h page) (page_size (pieces s.limits.page h) page) fat) thick in
     let written : sum_by (page_size (pieces s.limits.page h)) (files s.limits.page h) ≤ 2 * sum_by (reached_bytes s h) (files s.limits.page h) =
-        sum_twice (page_size (pieces s.limits.page h)) (reached_bytes s h) (files s.limits.page h) each in
+    sum_twice (page_size (pieces s.limits.page h)) (reached_bytes s h) (files s.limits.page h) each in
     rw (job_empty h (reached s.limits.page h) idle) (omega (arith, written))

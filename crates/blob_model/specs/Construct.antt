@@ -65,14 +65,18 @@ abbrev pub is_out_of_memory : Plan → Bool
 is_out_of_memory plans.OutOfMemory = true
 is_out_of_memory plan = false
 
--- the status of a blob that breaks at its own line: the first of four that applies
-abbrev pub line_status : Session → History → ℕ → ℕ → List Part → Option Status
-line_status s h renderer name parts = first_that
-    ((list_any (is_invalid s h renderer name) parts || nat_lt (2 ^ 62) (parts_length parts), statuses.InvalidArguments)
+-- the four reasons for which a blob breaks at its own line
+abbrev pub line_tests : Session → History → ℕ → ℕ → List Part → List (Bool × Status)
+line_tests s h renderer name parts =
+    (list_any (is_invalid s h renderer name) parts || nat_lt (2 ^ 62) (parts_length parts), statuses.InvalidArguments)
     ∷ (list_any (is_lost_source h renderer) (sources parts), statuses.ReferencedBlobBroken)
     ∷ (list_any (is_unrecorded h) parts, statuses.ReferencedFileUnavailable)
     ∷ (is_out_of_memory (plan_for s h parts), statuses.OutOfMemory)
-    ∷ [])
+    ∷ []
+
+-- the first of them that applies
+abbrev pub line_status : Session → History → ℕ → ℕ → List Part → Option Status
+line_status s h renderer name parts = first_that (line_tests s h renderer name parts)
 
 -- a blob breaks at its line, or has a plan
 abbrev pub build_answer_by : Session → History → ℕ → List Part → Option Status → Answer

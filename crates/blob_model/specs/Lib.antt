@@ -52,3 +52,4 @@ pub mod WrongVersions
 pub mod WrongCompaction
 pub mod Laws
 pub mod LegalLaws
+pub mod BuildLaws

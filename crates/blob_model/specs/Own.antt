@@ -1,6 +1,6 @@
 -- The answers that a line has of itself. Own.
 use Rattle.std.specs.Prelude.{◌≡◌, ◌⊎◌, ℕ, zero, suc, true, List, [], ◌∷◌, length, flat_map, Option, None, Some, slice_get, if◌then◌else◌}
-use Rattle.std.specs.Option.{option_map_or}
+use Rattle.std.specs.Option.{option_map_or, unwrap_or}
 use Rattle.blob_words.specs.declared.number.ReaderId.{ReaderId}
 use Rattle.blob_words.specs.declared.number.JobNo.{JobNo}
 use Rattle.blob_words.specs.declared.number.PieceNo.{PieceNo}
@@ -33,26 +33,25 @@ use Rattle.blob_model.specs.Construct.{build_answer}
 use Rattle.blob_model.specs.Refusals.{refusal}
 use Rattle.blob_model.specs.Choice.{IsOneOf}
 
--- the status that `stat` tells: how the blob ended, or what it still waits for
+-- what an unfinished blob still waits for
 abbrev pub pending_status : Session → History → Build → Status
 pending_status s h build = if is_waiting h build then statuses.PendingQuota else (if has_all s.limits h build then statuses.PendingReferencedBlobs else statuses.PendingTransport)
 
-abbrev pub status_by : Session → History → Build → Option Status → Status
-status_by s h build (Some status) = status
-status_by s h build None = pending_status s h build
+-- the status that `stat` tells: how the blob ended, or what it waits for
+abbrev pub status_of : Session → History → ℕ → Status
+status_of s h b = unwrap_or (ended h b) (option_map_or (pending_status s h) (build_in (builds s.limits.page h) b) statuses.PendingTransport)
 
-abbrev pub told : Session → History → ℕ → Option Build → List Answer
-told s h b None = []
-told s h b (Some build) = answers.Told b (size_in (builds s.limits.page h) b) build.kind (status_by s h build (ended h b)) ∷ []
+-- the content type of the blob of this name
+abbrev pub kind_in : List Build → ℕ → List ℕ
+kind_in builds name = option_map_or (λ (build : Build). build.kind) (build_in builds name) []
 
--- what opening a reader on the blob tells
-abbrev pub opening_of : Session → History → ReaderId → ℕ → List Answer
-opening_of s h reader b =
-    answers.Opened reader (size_in (builds s.limits.page h) b) (option_map_or (λ (build : Build). build.kind) (build_in (builds s.limits.page h) b) []) ∷ []
+-- the blob of the URL entry that a text resolves to
+abbrev pub blob_at : History → ℕ → List ℕ → ℕ
+blob_at h renderer text = option_map_or (λ (entry : Entry). entry.blob) (resolved h renderer text) 0
 
-abbrev pub opening_by : Session → History → ReaderId → Option Entry → List Answer
-opening_by s h reader None = []
-opening_by s h reader (Some entry) = opening_of s h reader entry.blob
+-- opening a reader tells the size and the content type of its blob
+abbrev pub opened : Session → History → ReaderId → ℕ → Answer
+opened s h reader b = answers.Opened reader (size_in (builds s.limits.page h) b) (kind_in (builds s.limits.page h) b)
 
 -- the piece that a segment of a file plan brings: the one at its place among the blob's pieces
 abbrev pub piece_at : Session → History → ℕ → ℕ → ℕ
@@ -94,10 +93,10 @@ abbrev pub accepted : Session → History → Event → List Answer
 accepted s h (events.Build renderer name kind parts) = build_answer s h renderer.0 name parts ∷ []
 accepted s h (events.Slice renderer name source from to kind) = build_answer s h renderer.0 name (slice_parts (builds s.limits.page h) source from to) ∷ []
 accepted s h (events.Segment renderer b segment bytes) = answers.Taken segment ∷ stored s h b segment (plan_in s h b)
-accepted s h (events.Stat renderer b) = told s h b (build_in (builds s.limits.page h) b)
+accepted s h (events.Stat renderer b) = answers.Told b (size_in (builds s.limits.page h) b) (kind_in (builds s.limits.page h) b) (status_of s h b) ∷ []
 accepted s h (events.Revoke renderer text) = (if owns_entry h renderer.0 text then answers.Revoked else answers.Nothing) ∷ []
-accepted s h (events.Read renderer reader b off len) = opening_of s h reader b
-accepted s h (events.Fetch renderer reader text off len) = opening_by s h reader (resolved h renderer.0 text)
+accepted s h (events.Read renderer reader b off len) = opened s h reader b ∷ []
+accepted s h (events.Fetch renderer reader text off len) = opened s h reader (blob_at h renderer.0 text) ∷ []
 accepted s h (events.Disk job) = job_done h job (source_of (in_flight h)) (job_left s.limits.page h) ∷ []
 accepted s h (events.Lost job) = answers.LostJob job ∷ []
 accepted s h events.Count =

@@ -15,15 +15,15 @@ sent_again = record {
   version = One;
   limits = no_disk;
   groups =
-    group (events.Spawn (renderer 1) (codes "https://a.test")) (answers.Good ∷ []) 0 0 0 0
-    ∷ group (events.Build (renderer 1) 1 [] (parts.Embedded (1 ∷ 2 ∷ 3 ∷ 4 ∷ 5 ∷ 6 ∷ []) ∷ [])) (answers.Planned plans.Inline ∷ answers.Done 1 ∷ []) 1 6 0 0
-    ∷ group (events.Build (renderer 1) 2 [] (parts.Embedded (codes "abc") ∷ [])) (answers.Planned (plans.Shared 1) ∷ []) 1 6 0 0
-    ∷ group (events.Drop (renderer 1) 1) (answers.Good ∷ answers.Granted 2 ∷ []) 1 3 0 0
-    ∷ group (events.Segment (renderer 1) 2 0 (codes "xyz")) (answers.Taken 0 ∷ answers.Done 2 ∷ []) 1 3 0 0
-    ∷ group (events.Read (renderer 1) (reader 1) 2 0 None) (answers.Opened (reader 1) 3 [] ∷ []) 1 3 0 0
-    ∷ group (events.Step (reader 1)) (answers.Given (reader 1) (codes "xyz") ∷ []) 1 3 0 0
-    ∷ group events.Finish (answers.Good ∷ []) 0 0 0 0
-    ∷ [];
+      group (events.Spawn (renderer 1) (codes "https://a.test")) (answers.Good ∷ []) 0 0 0 0
+      ∷ group (events.Build (renderer 1) 1 [] (parts.Embedded (1 ∷ 2 ∷ 3 ∷ 4 ∷ 5 ∷ 6 ∷ []) ∷ [])) (answers.Planned plans.Inline ∷ answers.Done 1 ∷ []) 1 6 0 0
+      ∷ group (events.Build (renderer 1) 2 [] (parts.Embedded (codes "abc") ∷ [])) (answers.Planned (plans.Shared 1) ∷ []) 1 6 0 0
+      ∷ group (events.Drop (renderer 1) 1) (answers.Good ∷ answers.Granted 2 ∷ []) 1 3 0 0
+      ∷ group (events.Segment (renderer 1) 2 0 (codes "xyz")) (answers.Taken 0 ∷ answers.Done 2 ∷ []) 1 3 0 0
+      ∷ group (events.Read (renderer 1) (reader 1) 2 0 None) (answers.Opened (reader 1) 3 [] ∷ []) 1 3 0 0
+      ∷ group (events.Step (reader 1)) (answers.Given (reader 1) (codes "xyz") ∷ []) 1 3 0 0
+      ∷ group events.Finish (answers.Good ∷ []) 0 0 0 0
+      ∷ [];
 }
 
 -- nobody passes the head
@@ -33,12 +33,12 @@ head_first = record {
   version = One;
   limits = no_disk;
   groups =
-    group (events.Spawn (renderer 1) (codes "https://a.test")) (answers.Good ∷ []) 0 0 0 0
-    ∷ group (events.Build (renderer 1) 1 [] (parts.Asked 4 ∷ [])) (answers.Planned (plans.Shared 1) ∷ answers.Granted 1 ∷ []) 1 4 0 0
-    ∷ group (events.Build (renderer 1) 2 [] (parts.Asked 6 ∷ [])) (answers.Planned (plans.Shared 2) ∷ []) 1 4 0 0
-    ∷ group (events.Build (renderer 1) 3 [] (parts.Embedded (codes "ab") ∷ [])) (answers.Planned (plans.Shared 1) ∷ []) 1 4 0 0
-    ∷ group (events.Stat (renderer 1) 3) (answers.Told 3 2 [] statuses.PendingQuota ∷ []) 1 4 0 0
-    ∷ group (events.Drop (renderer 1) 1) (answers.Good ∷ answers.Dropped 1 ∷ answers.Granted 2 ∷ answers.Granted 3 ∷ []) 2 8 0 0
-    ∷ group events.Finish (answers.Good ∷ answers.Dropped 3 ∷ answers.Dropped 2 ∷ []) 0 0 0 0
-    ∷ [];
+      group (events.Spawn (renderer 1) (codes "https://a.test")) (answers.Good ∷ []) 0 0 0 0
+      ∷ group (events.Build (renderer 1) 1 [] (parts.Asked 4 ∷ [])) (answers.Planned (plans.Shared 1) ∷ answers.Granted 1 ∷ []) 1 4 0 0
+      ∷ group (events.Build (renderer 1) 2 [] (parts.Asked 6 ∷ [])) (answers.Planned (plans.Shared 2) ∷ []) 1 4 0 0
+      ∷ group (events.Build (renderer 1) 3 [] (parts.Embedded (codes "ab") ∷ [])) (answers.Planned (plans.Shared 1) ∷ []) 1 4 0 0
+      ∷ group (events.Stat (renderer 1) 3) (answers.Told 3 2 [] statuses.PendingQuota ∷ []) 1 4 0 0
+      ∷ group (events.Drop (renderer 1) 1) (answers.Good ∷ answers.Dropped 1 ∷ answers.Granted 2 ∷ answers.Granted 3 ∷ []) 2 8 0 0
+      ∷ group events.Finish (answers.Good ∷ answers.Dropped 3 ∷ answers.Dropped 2 ∷ []) 0 0 0 0
+      ∷ [];
 }

@@ -17,13 +17,13 @@ past_memory = record {
   version = One;
   limits = nine_on_disk;
   groups =
-    group (events.Spawn (renderer 1) (codes "https://a.test")) (answers.Good ∷ []) 0 0 0 0
-    ∷ group (events.Build (renderer 1) 1 [] (parts.Asked 9 ∷ [])) (answers.Planned (plans.File 2) ∷ []) 2 0 0 9
-    ∷ group (events.Segment (renderer 1) 1 0 (codes "abcdefgh")) (answers.Taken 0 ∷ answers.Stored (page_no 0) (piece_no 0) ∷ []) 2 0 1 9
-    ∷ group (events.Segment (renderer 1) 1 1 (codes "i")) (answers.Taken 1 ∷ answers.Stored (page_no 1) (piece_no 1) ∷ answers.Done 1 ∷ []) 2 0 2 9
-    ∷ group (events.Drop (renderer 1) 1) (answers.Good ∷ answers.Removed (page_no 0) ∷ answers.Removed (page_no 1) ∷ []) 0 0 0 0
-    ∷ group events.Finish (answers.Good ∷ []) 0 0 0 0
-    ∷ [];
+      group (events.Spawn (renderer 1) (codes "https://a.test")) (answers.Good ∷ []) 0 0 0 0
+      ∷ group (events.Build (renderer 1) 1 [] (parts.Asked 9 ∷ [])) (answers.Planned (plans.File 2) ∷ []) 2 0 0 9
+      ∷ group (events.Segment (renderer 1) 1 0 (codes "abcdefgh")) (answers.Taken 0 ∷ answers.Stored (page_no 0) (piece_no 0) ∷ []) 2 0 1 9
+      ∷ group (events.Segment (renderer 1) 1 1 (codes "i")) (answers.Taken 1 ∷ answers.Stored (page_no 1) (piece_no 1) ∷ answers.Done 1 ∷ []) 2 0 2 9
+      ∷ group (events.Drop (renderer 1) 1) (answers.Good ∷ answers.Removed (page_no 0) ∷ answers.Removed (page_no 1) ∷ []) 0 0 0 0
+      ∷ group events.Finish (answers.Good ∷ []) 0 0 0 0
+      ∷ [];
 }
 
 -- a page file cannot be removed
@@ -33,13 +33,13 @@ stored_left = record {
   version = One;
   limits = nine_on_disk;
   groups =
-    group (events.Spawn (renderer 1) (codes "https://a.test")) (answers.Good ∷ []) 0 0 0 0
-    ∷ group (events.Build (renderer 1) 1 [] (parts.Asked 9 ∷ [])) (answers.Planned (plans.File 2) ∷ []) 2 0 0 9
-    ∷ group (events.Segment (renderer 1) 1 0 (codes "abcdefgh")) (answers.Taken 0 ∷ answers.Stored (page_no 0) (piece_no 0) ∷ []) 2 0 1 9
-    ∷ group (events.Segment (renderer 1) 1 1 (codes "i")) (answers.Taken 1 ∷ answers.Stored (page_no 1) (piece_no 1) ∷ answers.Done 1 ∷ []) 2 0 2 9
-    ∷ group (events.Drop (renderer 1) 1) (answers.Good ∷ answers.Left (page_no 0) ∷ answers.Removed (page_no 1) ∷ []) 0 0 0 0
-    ∷ group events.Finish (answers.Good ∷ []) 0 0 0 0
-    ∷ [];
+      group (events.Spawn (renderer 1) (codes "https://a.test")) (answers.Good ∷ []) 0 0 0 0
+      ∷ group (events.Build (renderer 1) 1 [] (parts.Asked 9 ∷ [])) (answers.Planned (plans.File 2) ∷ []) 2 0 0 9
+      ∷ group (events.Segment (renderer 1) 1 0 (codes "abcdefgh")) (answers.Taken 0 ∷ answers.Stored (page_no 0) (piece_no 0) ∷ []) 2 0 1 9
+      ∷ group (events.Segment (renderer 1) 1 1 (codes "i")) (answers.Taken 1 ∷ answers.Stored (page_no 1) (piece_no 1) ∷ answers.Done 1 ∷ []) 2 0 2 9
+      ∷ group (events.Drop (renderer 1) 1) (answers.Good ∷ answers.Left (page_no 0) ∷ answers.Removed (page_no 1) ∷ []) 0 0 0 0
+      ∷ group events.Finish (answers.Good ∷ []) 0 0 0 0
+      ∷ [];
 }
 
 -- the disk has no room
@@ -49,10 +49,10 @@ disk_full = record {
   version = One;
   limits = eight_on_disk;
   groups =
-    group (events.Spawn (renderer 1) (codes "https://a.test")) (answers.Good ∷ []) 0 0 0 0
-    ∷ group (events.Build (renderer 1) 1 [] (parts.Asked 9 ∷ [])) (answers.Broken 1 statuses.OutOfMemory ∷ []) 0 0 0 0
-    ∷ group events.Finish (answers.Good ∷ []) 0 0 0 0
-    ∷ [];
+      group (events.Spawn (renderer 1) (codes "https://a.test")) (answers.Good ∷ []) 0 0 0 0
+      ∷ group (events.Build (renderer 1) 1 [] (parts.Asked 9 ∷ [])) (answers.Broken 1 statuses.OutOfMemory ∷ []) 0 0 0 0
+      ∷ group events.Finish (answers.Good ∷ []) 0 0 0 0
+      ∷ [];
 }
 
 -- a blob as long as the memory limit
@@ -62,10 +62,10 @@ memory_full = record {
   version = One;
   limits = nine_on_disk;
   groups =
-    group (events.Spawn (renderer 1) (codes "https://a.test")) (answers.Good ∷ []) 0 0 0 0
-    ∷ group (events.Build (renderer 1) 1 [] (parts.Asked 8 ∷ [])) (answers.Planned (plans.Shared 2) ∷ answers.Granted 1 ∷ []) 1 8 0 0
-    ∷ group events.Finish (answers.Good ∷ answers.Dropped 1 ∷ []) 0 0 0 0
-    ∷ [];
+      group (events.Spawn (renderer 1) (codes "https://a.test")) (answers.Good ∷ []) 0 0 0 0
+      ∷ group (events.Build (renderer 1) 1 [] (parts.Asked 8 ∷ [])) (answers.Planned (plans.Shared 2) ∷ answers.Granted 1 ∷ []) 1 8 0 0
+      ∷ group events.Finish (answers.Good ∷ answers.Dropped 1 ∷ []) 0 0 0 0
+      ∷ [];
 }
 
 -- a write of a piece fails
@@ -75,12 +75,12 @@ store_failed = record {
   version = One;
   limits = nine_on_disk;
   groups =
-    group (events.Spawn (renderer 1) (codes "https://a.test")) (answers.Good ∷ []) 0 0 0 0
-    ∷ group (events.Build (renderer 1) 1 [] (parts.Asked 9 ∷ [])) (answers.Planned (plans.File 2) ∷ []) 2 0 0 9
-    ∷ group (events.Segment (renderer 1) 1 0 (codes "abcdefgh")) (answers.Taken 0 ∷ answers.Stored (page_no 0) (piece_no 0) ∷ []) 2 0 1 9
-    ∷ group (events.Segment (renderer 1) 1 1 (codes "i")) (answers.Taken 1 ∷ answers.StoreFailed (page_no 1) ∷ answers.Broken 1 statuses.FileWriteFailed ∷ answers.Removed (page_no 0) ∷ []) 0 0 0 0
-    ∷ group events.Finish (answers.Good ∷ []) 0 0 0 0
-    ∷ [];
+      group (events.Spawn (renderer 1) (codes "https://a.test")) (answers.Good ∷ []) 0 0 0 0
+      ∷ group (events.Build (renderer 1) 1 [] (parts.Asked 9 ∷ [])) (answers.Planned (plans.File 2) ∷ []) 2 0 0 9
+      ∷ group (events.Segment (renderer 1) 1 0 (codes "abcdefgh")) (answers.Taken 0 ∷ answers.Stored (page_no 0) (piece_no 0) ∷ []) 2 0 1 9
+      ∷ group (events.Segment (renderer 1) 1 1 (codes "i")) (answers.Taken 1 ∷ answers.StoreFailed (page_no 1) ∷ answers.Broken 1 statuses.FileWriteFailed ∷ answers.Removed (page_no 0) ∷ []) 0 0 0 0
+      ∷ group events.Finish (answers.Good ∷ []) 0 0 0 0
+      ∷ [];
 }
 
 -- a piece as long as a page file
@@ -90,11 +90,11 @@ long_page = record {
   version = One;
   limits = long_pages;
   groups =
-    group (events.Spawn (renderer 1) (codes "https://a.test")) (answers.Good ∷ []) 0 0 0 0
-    ∷ group (events.Build (renderer 1) 1 [] (parts.Asked 5 ∷ [])) (answers.Planned (plans.File 1) ∷ []) 1 0 0 5
-    ∷ group (events.Segment (renderer 1) 1 0 (codes "abcde")) (answers.Taken 0 ∷ answers.Stored (page_no 0) (piece_no 0) ∷ answers.Done 1 ∷ []) 1 0 1 5
-    ∷ group events.Finish (answers.Good ∷ answers.Removed (page_no 0) ∷ []) 0 0 0 0
-    ∷ [];
+      group (events.Spawn (renderer 1) (codes "https://a.test")) (answers.Good ∷ []) 0 0 0 0
+      ∷ group (events.Build (renderer 1) 1 [] (parts.Asked 5 ∷ [])) (answers.Planned (plans.File 1) ∷ []) 1 0 0 5
+      ∷ group (events.Segment (renderer 1) 1 0 (codes "abcde")) (answers.Taken 0 ∷ answers.Stored (page_no 0) (piece_no 0) ∷ answers.Done 1 ∷ []) 1 0 1 5
+      ∷ group events.Finish (answers.Good ∷ answers.Removed (page_no 0) ∷ []) 0 0 0 0
+      ∷ [];
 }
 
 -- and its write fails
@@ -104,9 +104,9 @@ long_page_failed = record {
   version = One;
   limits = long_pages;
   groups =
-    group (events.Spawn (renderer 1) (codes "https://a.test")) (answers.Good ∷ []) 0 0 0 0
-    ∷ group (events.Build (renderer 1) 1 [] (parts.Asked 5 ∷ [])) (answers.Planned (plans.File 1) ∷ []) 1 0 0 5
-    ∷ group (events.Segment (renderer 1) 1 0 (codes "abcde")) (answers.Taken 0 ∷ answers.StoreFailed (page_no 0) ∷ answers.Broken 1 statuses.FileWriteFailed ∷ []) 0 0 0 0
-    ∷ group events.Finish (answers.Good ∷ []) 0 0 0 0
-    ∷ [];
+      group (events.Spawn (renderer 1) (codes "https://a.test")) (answers.Good ∷ []) 0 0 0 0
+      ∷ group (events.Build (renderer 1) 1 [] (parts.Asked 5 ∷ [])) (answers.Planned (plans.File 1) ∷ []) 1 0 0 5
+      ∷ group (events.Segment (renderer 1) 1 0 (codes "abcde")) (answers.Taken 0 ∷ answers.StoreFailed (page_no 0) ∷ answers.Broken 1 statuses.FileWriteFailed ∷ []) 0 0 0 0
+      ∷ group events.Finish (answers.Good ∷ []) 0 0 0 0
+      ∷ [];
 }

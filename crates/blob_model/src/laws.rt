@@ -1,4 +1,5 @@
 ghost use Rattle.blob_model.specs.Laws.{ChangeLaws};
+ghost use Rattle.blob_model.specs.BuildLaws.{CellsAreSizes, LiveIsLeast, RootedLive, RenderersAreFew};
 ghost use Rattle.blob_model.specs.LegalLaws.{FrontsAreLegal, MoreIsLegal, OneTranscript, ReachedAreGranted, ThinStaysForRoom, DiskIsAtMostTwice};
 
 /// After which lines and answers alone each notion changes.
@@ -35,4 +36,24 @@ pub fn thin_stays_for_room()
 /// pieces in page files, and those that are reserved.
 pub fn disk_is_at_most_twice()
     ensures { DiskIsAtMostTwice }
+{}
+
+/// In a legal transcript each blob has as many cells as its size.
+pub fn cells_are_sizes()
+    ensures { CellsAreSizes }
+{}
+
+/// Whatever has the roots and is closed under what unfinished blobs need has every live blob.
+pub fn live_is_least()
+    ensures { LiveIsLeast }
+{}
+
+/// Each rooted blob lives.
+pub fn rooted_live()
+    ensures { RootedLive }
+{}
+
+/// The renderer after 1,024 is refused.
+pub fn renderers_are_few()
+    ensures { RenderersAreFew }
 {}
