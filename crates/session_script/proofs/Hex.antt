@@ -1,5 +1,5 @@
 -- Digits in lower case: what they decode to encodes to them again.
-use Rattle.std.proofs.Common.{◌≡◌, ℕ, zero, suc, ◌+◌, ◌/◌, ◌%◌, ◌<◌, ◌≤◌, ◌==◌, ◌&&◌, ◌⊎◌, leb, Bool, true, false, List, [], ◌∷◌, length, slice_index, Option, Some, None, Result, Ok, Err, codes, refl, sym, ap, ◌∙◌, inl, inr, arith}
+use Rattle.std.proofs.Common.{◌≡◌, ℕ, zero, suc, ◌+◌, ◌/◌, ◌%◌, ◌<◌, ◌≤◌, ◌==◌, ◌&&◌, ◌⊎◌, leb, Bool, true, false, List, [], ◌∷◌, ◌++◌, length, slice_index, Option, Some, None, Result, Ok, Err, codes, refl, sym, ap, ◌∙◌, inl, inr, arith}
 use Rattle.std.specs.Int.{IsInRange}
 use Rattle.std.specs.List.{list_all}
 use Rattle.std.specs.Str.{bytes_eq}
@@ -135,3 +135,17 @@ not_dash text dash same told other is_dash e = both_ways same other (told ∙ (b
 
 pub some_bytes : (text : List ℕ) (none : Bool) → none ≡ (length text == 0) → none ≡ false → 0 < length text
 some_bytes text none told other = let apart = eqb-false (length text) 0 (sym told ∙ other) in omega (arith, apart)
+
+-- at most 255 bytes have at most 510 digits, and more have more
+pub hex_short : (value : List ℕ) → length value ≤ 255 → length (hex_text value) ≤ 510
+hex_short [] few = omega arith
+hex_short (byte ∷ value) few = omega (arith, length-encode_with lower_digits (byte ∷ value))
+
+pub hex_long : (value : List ℕ) → 255 < length value → 510 < length (hex_text value)
+hex_long [] many = absurd (omega arith)
+hex_long (byte ∷ value) many = omega (arith, length-encode_with lower_digits (byte ∷ value))
+
+pub encode_with-append : (t xs ys : List ℕ) → encode_with t (xs ++ ys) ≡ encode_with t xs ++ encode_with t ys
+unfolding encode_with
+encode_with-append t [] ys = refl
+encode_with-append t (x ∷ xs) ys = rw (encode_with-append t xs ys) refl

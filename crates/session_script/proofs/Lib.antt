@@ -1,8 +1,12 @@
-pub mod Digits
-pub mod Fronts
+pub mod Bytes
+pub mod Each
 pub mod Hex
+pub mod Limits
 pub mod Lines
-pub mod Visible
 pub mod Numbers
+pub mod Outputs
+pub mod Parts
+pub mod Rows
 pub mod Splits
-pub mod Takes
+pub mod Visible
+pub mod Words

@@ -1,6 +1,9 @@
 -- The text of a number is plain digits, and plain digits are the text of their number.
-use Rattle.std.proofs.Common.{◌≡◌, ◌≢◌, ℕ, ◌<◌, ◌^◌, not, true, List, length, get_or, decimal, eqb, sym, ap, ◌∙◌, inl, inr, arith}
+use Rattle.std.proofs.Common.{◌≡◌, ◌≢◌, ℕ, ℤ, FitsSigned, ◌<◌, ◌^◌, not, true, List, length, get_or, decimal, eqb, sym, ap, ◌∙◌, inl, inr, arith}
+use Rattle.std.specs.Fmt.{signed_decimal}
+use Rattle.std.specs.Int.{w64}
 use Rattle.std.specs.Str.Parse.{AllDigits, IsNumeral, digits_value, without_leading_plus}
+use lib.Signed.{mag}
 use Rattle.std.proofs.lemmas.Bool.{and_parts, cases_eq, eqb-false, not-true}
 use Rattle.std.proofs.lemmas.Bool.Decides.{nat_tests}
 use Rattle.std.proofs.lemmas.Fmt.{decimal_digit, decimal-digits_value, first_decimal}
@@ -37,3 +40,7 @@ decimal_from_plain text n plain numeral fits value =
     let small = rw same at fits in
     let number : n ≡ digits_value 10 text = value ∙ ap (digits_value 10) same in
     (rw number small, sym (ap decimal number ∙ decimal-digits_value own text digits.1 digits.0 (one_zero text plain) small))
+
+-- a signed number of 64 bits has at most 63 bits beside its sign
+pub signed_small : (z : ℤ) → FitsSigned w64 z → mag z < 2 ^ 63
+signed_small z fits = fits.sfits

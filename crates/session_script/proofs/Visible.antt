@@ -1,161 +1,157 @@
--- The bytes of an event's words are visible: none is a space or a line feed.
-use Rattle.std.proofs.Common.{◌≡◌, ℕ, ◌<◌, ◌≤◌, ◌^◌, true, false, map, List, [], ◌∷◌, Option, Some, None, IfSome, decimal, codes, eqb, refl, ◌∙◌, lit≤, arith}
-use Rattle.std.specs.Prelude.{Bool, nat_le, ◌==◌, All}
-use Rattle.std.specs.Int.{IsInRange}
+-- The bytes of fields are visible: none is a space or a line feed, and none in a part's fields is a colon.
+use Rattle.std.proofs.Common.{◌≡◌, ℕ, ◌<◌, ◌≤◌, ◌^◌, ◌⊎◌, true, false, map, List, [], ◌∷◌, ◌++◌, All, eqb, length, decimal, refl, sym, ap, ◌∙◌, lit≤, subst, arith}
+use Rattle.std.specs.Prelude.{Bool, nat_le, ◌==◌, ◌&&◌, ◌||◌}
 use Rattle.std.specs.List.{AllByRecursion, list_all, list_any}
-use Rattle.std.proofs.lemmas.Bool.{and_parts, ne_eqb, leb-true, or_from}
+use Rattle.std.proofs.lemmas.Bool.{and_parts, ne_eqb, or_from}
 use Rattle.std.proofs.lemmas.Bool.Decides.{nat_tests}
-use Rattle.std.proofs.lemmas.Fmt.{decimal_is_IsNumeral}
-use Rattle.std.proofs.lemmas.List.Elements.{All-cons, All-nil, All-from_get_or, All-weaker}
+use Rattle.std.proofs.lemmas.List.Elements.{All-cons, All-nil, All-weaker, All-append}
 use Rattle.std.proofs.lemmas.List.Folds.{list_any-append, list_any_none}
-use Rattle.std.proofs.lemmas.Str.Parse.{digit_at}
-use Rattle.hex.specs.Hex.{IsBytes, encode_lower}
-use Rattle.blob_words.proofs.NameBytes.{IsVisible, name_visible}
+use Rattle.blob_words.specs.FileName.{is_file_name, is_file_name_byte}
 use Rattle.blob_words.specs.Origin.{is_origin, is_origin_byte}
-use Rattle.session_script.specs.Fields.{fields, joined, hex_text, len_text}
-use Rattle.session_script.specs.Line.{part_text, words_of, line_of, HasSpelling, PartHasText}
-use Rattle.session_script.specs.Reading.{split, is_lower_digit}
-use Rattle.session_script.specs.declared.event.Event.{Event}
-use Rattle.session_script.specs.declared.event.Event.TheVariants as events
+use Rattle.blob_words.specs.UrlText.{is_url_text, is_visible_byte}
+use Rattle.session_script.specs.Fault.{IsPart, kinds_of, kinds_of_letter}
+use Rattle.session_script.specs.Fields.{fields, joined}
+use Rattle.session_script.specs.Kind.{Kind, Spells, AllSpell, number_32, number_64, positive, len, place, name, origin, file_name, url_text, bytes, content_type}
+use Rattle.session_script.specs.Line.{letter_of, part_fields, part_text, PartHasText}
+use Rattle.session_script.specs.Reading.{split}
+use Rattle.session_script.specs.Word.{word_text, letter_text}
 use Rattle.session_script.specs.declared.event.Part.{Part}
 use Rattle.session_script.specs.declared.event.Part.TheVariants as parts
-use Rattle.session_script.proofs.Hex.{encoded_lower}
-use Rattle.session_script.proofs.Splits.{HasNoSpace, split-joined}
+use Rattle.session_script.specs.declared.letter.Letter.{Letter}
+use Rattle.session_script.specs.declared.word.Word.{Word}
+use Rattle.session_script.proofs.Bytes.{OfDigits, decimal_all, hex_all, name_all, len_all, place_all, tested_all}
+use Rattle.session_script.proofs.Parts.{part_spelled}
+use Rattle.session_script.proofs.Splits.{HasNone, split-joined}
+use Rattle.session_script.proofs.Words.{word_plain, letter_plain}
 
-abbrev AreVisible : List ℕ → Type 0
+abbrev pub IsVisible : ℕ → Type 0
+IsVisible byte = 33 ≤ byte
+
+abbrev pub AreVisible : List ℕ → Type 0
 AreVisible text = All IsVisible text
 
-in_digits : (c : ℕ) → IsInRange 48 57 c → IsVisible c
-in_digits c range = omega arith
+digits_visible : OfDigits IsVisible
+digits_visible = record {
+  digit = λ c low high. omega arith;
+  letter = λ c low high. omega arith;
+  dash = lit≤ tt;
+  blank = lit≤ tt;
+}
 
-pub decimal_visible : (n : ℕ) → n < 2 ^ 64 → AreVisible (decimal n)
-decimal_visible n fits =
-    let numeral = decimal_is_IsNumeral n fits in
-    All-from_get_or IsVisible (decimal n) 0 (λ i lt. in_digits _ (digit_at (decimal n) i numeral.0.1 lt))
+digits_free : OfDigits (λ byte. eqb byte 58 ≡ false)
+digits_free = record {
+  digit = λ c low high. ne_eqb c 58 (λ same. omega arith);
+  letter = λ c low high. ne_eqb c 58 (λ same. omega arith);
+  dash = refl;
+  blank = refl;
+}
 
-lower_visible : (c : ℕ) → is_lower_digit c ≡ true → IsVisible c
-lower_visible c lower = grind (arith, nat_tests)
+file_name_byte : (c : ℕ) → is_file_name_byte c ≡ true → IsVisible c
+file_name_byte c allowed = grind (arith, nat_tests)
 
-lower_all_visible : (text : List ℕ) → list_all is_lower_digit text ≡ true → AreVisible text
-lower_all_visible [] all = All-nil IsVisible
-lower_all_visible (c ∷ text) all =
-    let parts = and_parts (is_lower_digit c) (list_all is_lower_digit text) all in
-    All-cons IsVisible c text (lower_visible c parts.0) (lower_all_visible text parts.1)
+file_name_free : (c : ℕ) → is_file_name_byte c ≡ true → eqb c 58 ≡ false
+file_name_free c allowed = grind (arith, nat_tests)
 
-hex_visible : (bytes : List ℕ) → IsBytes bytes → AreVisible (hex_text bytes)
-hex_visible [] fits = All-cons IsVisible 45 [] (lit≤ tt) (All-nil IsVisible)
-hex_visible (byte ∷ bytes) fits = lower_all_visible (encode_lower (byte ∷ bytes)) (encoded_lower (byte ∷ bytes) fits)
+origin_byte : (c : ℕ) → is_origin_byte c ≡ true → IsVisible c
+origin_byte c allowed = grind (arith, nat_tests)
+
+url_byte : (c : ℕ) → is_visible_byte c ≡ true → IsVisible c
+url_byte c allowed = grind (arith, nat_tests)
+
+-- the texts of all kinds are visible
+pub spells_visible : (kind : Kind) (text : List ℕ) → Spells kind text → AreVisible text
+spells_visible number_32 text s = subst AreVisible (sym s.2) (decimal_all IsVisible digits_visible s.0 (omega arith))
+spells_visible number_64 text s = subst AreVisible (sym s.2) (decimal_all IsVisible digits_visible s.0 s.1)
+spells_visible positive text s = subst AreVisible (sym s.3) (decimal_all IsVisible digits_visible s.0 s.2)
+spells_visible len text s = subst AreVisible (sym s.2) (len_all IsVisible digits_visible s.0 s.1)
+spells_visible place text s = subst AreVisible (sym s.2) (place_all IsVisible digits_visible s.0 s.1)
+spells_visible name text s = subst AreVisible (sym s.2) (name_all IsVisible digits_visible s.0)
+spells_visible origin text s = tested_all IsVisible is_origin_byte origin_byte text (and_parts _ (list_all is_origin_byte text) (and_parts _ _ s).0).1
+spells_visible file_name text s = tested_all IsVisible is_file_name_byte file_name_byte text (and_parts _ (list_all is_file_name_byte text) s).1
+spells_visible url_text text s = tested_all IsVisible is_visible_byte url_byte text (and_parts _ (list_all is_visible_byte text) s).1
+spells_visible bytes text s = subst AreVisible (sym s.2) (hex_all IsVisible digits_visible s.0 s.1)
+spells_visible content_type text s = subst AreVisible (sym s.3) (hex_all IsVisible digits_visible s.0 s.1)
+
+pub all_visible : (kinds : List Kind) (texts : List (List ℕ)) → AllSpell kinds texts → AllByRecursion AreVisible texts
+all_visible [] [] all = tt
+all_visible [] (text ∷ texts) all = absurd all
+all_visible (kind ∷ kinds) [] all = absurd all
+all_visible (kind ∷ kinds) (text ∷ texts) all = (spells_visible kind text all.0, all_visible kinds texts all.1)
+
+plain_visible : (c : ℕ) → (nat_le 59 c || (nat_le 48 c && nat_le c 57)) ≡ true → IsVisible c
+plain_visible c plain = grind (arith, nat_tests)
+
+plain_free : (c : ℕ) → (nat_le 59 c || (nat_le 48 c && nat_le c 57)) ≡ true → eqb c 58 ≡ false
+plain_free c plain = grind (arith, nat_tests)
+
+pub word_visible : (word : Word) → AreVisible (word_text word)
+word_visible word = tested_all IsVisible _ plain_visible (word_text word) (word_plain word)
+
+letter_visible : (letter : Letter) → AreVisible (letter_text letter)
+letter_visible letter = tested_all IsVisible _ plain_visible (letter_text letter) (letter_plain letter)
+
+letter_free : (letter : Letter) → HasNone 58 (letter_text letter)
+letter_free letter = tested_all (λ byte. eqb byte 58 ≡ false) _ plain_free (letter_text letter) (letter_plain letter)
+
+decimal_free : (n : ℕ) → n < 2 ^ 64 → HasNone 58 (decimal n)
+decimal_free n fits = decimal_all (λ byte. eqb byte 58 ≡ false) digits_free n fits
+
+-- no colon stands in a part's fields
+part_free : (part : Part) → PartHasText part → AllByRecursion (HasNone 58) (part_fields part)
+part_free (parts.Embedded octets) fits = (hex_all (λ byte. eqb byte 58 ≡ false) digits_free octets fits, tt)
+part_free (parts.Asked n) fits = (decimal_free n fits, tt)
+part_free (parts.FileRange file off n stamp) fits =
+    (tested_all (λ byte. eqb byte 58 ≡ false) is_file_name_byte file_name_free file (and_parts _ (list_all is_file_name_byte file) fits.0).1,
+    (decimal_free off fits.1, (decimal_free n fits.2, (decimal_free stamp fits.3, tt))))
+part_free (parts.BlobRange b off n) fits =
+    (name_all (λ byte. eqb byte 58 ≡ false) digits_free b, (decimal_free off fits.1, (decimal_free n fits.2, tt)))
+part_free (parts.HandleRange k off n) fits =
+    (decimal_free k (omega arith), (decimal_free off fits.1, (decimal_free n fits.3, tt)))
+
+-- the text of a part is parted at its colons into its letter and its fields
+pub split-part_text : (part : Part) → PartHasText part → split 58 (part_text part) ≡ letter_text (letter_of part) ∷ part_fields part
+split-part_text part fits = split-joined 58 (letter_text (letter_of part)) (part_fields part) (letter_free (letter_of part)) (part_free part fits)
+
+pub is_part : (part : Part) → PartHasText part → IsPart (split 58 (part_text part))
+is_part part fits = subst IsPart (sym (split-part_text part fits)) (letter_of part, refl, part_spelled part fits)
+
+fields_visible : (c : ℕ) (texts : List (List ℕ)) → IsVisible c → AllByRecursion AreVisible texts → AreVisible (fields c texts)
+fields_visible c [] seen all = All-nil IsVisible
+fields_visible c (text ∷ texts) seen all = All-append IsVisible (c ∷ text) (fields c texts) (All-cons IsVisible c text seen all.0) (fields_visible c texts seen all.1)
 
 part_visible : (part : Part) → PartHasText part → AreVisible (part_text part)
-part_visible (parts.Embedded bytes) fits =
-    All-cons IsVisible 98 (58 ∷ hex_text bytes) (lit≤ tt) (All-cons IsVisible 58 (hex_text bytes) (lit≤ tt) (hex_visible bytes fits))
+part_visible part fits =
+    All-append IsVisible (letter_text (letter_of part)) (fields 58 (part_fields part)) (letter_visible (letter_of part))
+    (fields_visible 58 (part_fields part) (lit≤ tt) (all_visible _ (part_fields part) (part_spelled part fits)))
 
-parts_visible : (all : List Part) → AllByRecursion PartHasText all → AllByRecursion AreVisible (map part_text all)
+pub parts_visible : (all : List Part) → AllByRecursion PartHasText all → AllByRecursion AreVisible (map part_text all)
 parts_visible [] fits = tt
 parts_visible (part ∷ all) fits = (part_visible part fits.0, parts_visible all fits.1)
 
-origin_byte_visible : (c : ℕ) → is_origin_byte c ≡ true → IsVisible c
-origin_byte_visible c allowed = grind (arith, nat_tests)
+-- ---- spaces and line feeds
 
-origin_bytes_visible : (origin : List ℕ) → list_all is_origin_byte origin ≡ true → AreVisible origin
-origin_bytes_visible [] all = All-nil IsVisible
-origin_bytes_visible (c ∷ origin) all =
-    let parts = and_parts (is_origin_byte c) (list_all is_origin_byte origin) all in
-    All-cons IsVisible c origin (origin_byte_visible c parts.0) (origin_bytes_visible origin parts.1)
-
-origin_visible : (origin : List ℕ) → is_origin origin ≡ true → AreVisible origin
-origin_visible origin allowed = origin_bytes_visible origin (and_parts _ (list_all is_origin_byte origin) (and_parts _ _ allowed).0).1
-
-len_visible : (len : Option ℕ) → IfSome len (λ n. n < 2 ^ 64) → AreVisible (len_text len)
-len_visible None fits = All-cons IsVisible 95 [] (lit≤ tt) (All-nil IsVisible)
-len_visible (Some n) fits = decimal_visible n fits
-
-kind_visible : (kind : List ℕ) → kind ≡ [] → AreVisible (hex_text kind)
-kind_visible kind none = rw none (All-cons IsVisible 45 [] (lit≤ tt) (All-nil IsVisible))
-
--- a word of letters, which computes
-word_visible : (word : List ℕ) → list_all (λ byte. nat_le 33 byte) word ≡ true → AreVisible word
-word_visible [] all = All-nil IsVisible
-word_visible (c ∷ word) all =
-    let parts = and_parts (nat_le 33 c) (list_all (λ byte. nat_le 33 byte) word) all in
-    All-cons IsVisible c word (leb-true 33 c parts.0) (word_visible word parts.1)
-
-below_limit : (n most : ℕ) → n ≤ most → most < 2 ^ 64 → n < 2 ^ 64
-below_limit n most low fits = omega arith
-
-le_trans : {a b c : ℕ} → a ≤ b → b ≤ c → a ≤ c
-le_trans {a} {b} {c} low high = omega arith
-
--- the words of an event
-words_visible : (event : Event) → HasSpelling event → AllByRecursion AreVisible (words_of event)
-words_visible (events.Limits l) fits = (
-  word_visible (codes "limits") refl,
-  (
-    decimal_visible l.memory (below_limit _ _ l.memory_bound (omega arith)),
-    (
-      decimal_visible l.disk (below_limit _ _ l.disk_bound (omega arith)),
-      (
-        decimal_visible l.big (below_limit _ _ (le_trans l.big_bound l.memory_bound) (omega arith)),
-        (
-          decimal_visible l.inline_max (below_limit _ _ l.inline_bound (omega arith)),
-          (
-            decimal_visible l.segment (below_limit _ _ l.segment_bound (omega arith)),
-            (decimal_visible l.page (below_limit _ _ l.page_bound (omega arith)), (decimal_visible l.chunk (below_limit _ _ l.chunk_bound (omega arith)), tt)),
-          ),
-        ),
-      ),
-    ),
-  ),
-)
-words_visible (events.Spawn r origin) fits =
-    (word_visible (codes "spawn") refl, (decimal_visible r.0 (omega arith), (origin_visible origin fits.1, tt)))
-words_visible (events.Build r b kind all) fits =
-    (word_visible (codes "build") refl, (decimal_visible r.0 (omega arith), (name_visible b, (kind_visible kind fits.2, parts_visible all fits.4))))
-words_visible (events.Drop r b) fits =
-    (word_visible (codes "drop") refl, (decimal_visible r.0 (omega arith), (name_visible b, tt)))
-words_visible (events.Read r q b off len) fits =
-    (word_visible (codes "read") refl, (decimal_visible r.0 (omega arith), (decimal_visible q.0 (omega arith), (name_visible b, (decimal_visible off fits.3, (len_visible len fits.4, tt))))))
-words_visible (events.Step q) fits =
-    (word_visible (codes "step") refl, (decimal_visible q.0 (omega arith), tt))
-words_visible events.Finish fits = (word_visible (codes "end") refl, tt)
-
-no_space : (text : List ℕ) → AreVisible text → HasNoSpace text
+no_space : (text : List ℕ) → AreVisible text → HasNone 32 text
 no_space text seen = All-weaker IsVisible (λ byte. eqb byte 32 ≡ false) (λ byte low. ne_eqb byte 32 (λ same. omega arith)) text seen
 
-no_spaces : (texts : List (List ℕ)) → AllByRecursion AreVisible texts → AllByRecursion HasNoSpace texts
+no_spaces : (texts : List (List ℕ)) → AllByRecursion AreVisible texts → AllByRecursion (HasNone 32) texts
 no_spaces [] seen = tt
 no_spaces (text ∷ texts) seen = (no_space text seen.0, no_spaces texts seen.1)
 
-parted : (word : List ℕ) (texts : List (List ℕ)) → AllByRecursion AreVisible (word ∷ texts) → split (joined (word ∷ texts)) ≡ word ∷ texts
-parted word texts seen = split-joined word texts (no_space word seen.0) (no_spaces texts seen.1)
+-- visible texts are parted at the spaces between them
+pub split-visible : (word : List ℕ) (texts : List (List ℕ)) → AreVisible word → AllByRecursion AreVisible texts → split 32 (joined 32 (word ∷ texts)) ≡ word ∷ texts
+split-visible word texts seen all = split-joined 32 word texts (no_space word seen) (no_spaces texts all)
 
--- the line of an event is parted into the event's words
-pub split-line_of : (event : Event) → HasSpelling event → split (line_of event) ≡ words_of event
-split-line_of (events.Limits l) fits = parted _ _ (words_visible (events.Limits l) fits)
-split-line_of (events.Spawn r origin) fits = parted _ _ (words_visible (events.Spawn r origin) fits)
-split-line_of (events.Build r b kind all) fits = parted _ _ (words_visible (events.Build r b kind all) fits)
-split-line_of (events.Drop r b) fits = parted _ _ (words_visible (events.Drop r b) fits)
-split-line_of (events.Read r q b off len) fits = parted _ _ (words_visible (events.Read r q b off len) fits)
-split-line_of (events.Step q) fits = parted _ _ (words_visible (events.Step q) fits)
-split-line_of events.Finish fits = parted _ _ (words_visible events.Finish fits)
-
--- ---- line feeds
-
-abbrev has_feed : List ℕ → Bool
-has_feed bytes = list_any (λ byte. byte == 10) bytes
+abbrev pub has_feed : List ℕ → Bool
+has_feed text = list_any (λ byte. byte == 10) text
 
 no_feed : (text : List ℕ) → AreVisible text → has_feed text ≡ false
 no_feed text seen = list_any_none (λ byte. byte == 10) text (All-weaker IsVisible (λ byte. (byte == 10) ≡ false) (λ byte low. ne_eqb byte 10 (λ same. omega arith)) text seen)
 
-no_feeds : (texts : List (List ℕ)) → AllByRecursion AreVisible texts → has_feed (fields texts) ≡ false
+no_feeds : (texts : List (List ℕ)) → AllByRecursion AreVisible texts → has_feed (fields 32 texts) ≡ false
 no_feeds [] seen = refl
 no_feeds (text ∷ texts) seen =
-    list_any-append (λ byte. byte == 10) (32 ∷ text) (fields texts) ∙ or_from (has_feed (32 ∷ text)) (has_feed (fields texts)) (no_feed text seen.0) (no_feeds texts seen.1)
+    list_any-append (λ byte. byte == 10) (32 ∷ text) (fields 32 texts) ∙ or_from (has_feed (32 ∷ text)) (has_feed (fields 32 texts)) (no_feed text seen.0) (no_feeds texts seen.1)
 
-feedless : (words : List (List ℕ)) → AllByRecursion AreVisible words → has_feed (joined words) ≡ false
-feedless [] seen = refl
-feedless (word ∷ texts) seen = list_any-append (λ byte. byte == 10) word (fields texts) ∙ or_from (has_feed word) (has_feed (fields texts)) (no_feed word seen.0) (no_feeds texts seen.1)
-
--- the line of an event has no line feed in it
-pub line_of-feedless : (event : Event) → HasSpelling event → list_any (λ byte. byte == 10) (line_of event) ≡ false
-line_of-feedless event fits = feedless (words_of event) (words_visible event fits)
+-- visible texts with spaces between them have no line feed
+pub feedless : (word : List ℕ) (texts : List (List ℕ)) → AreVisible word → AllByRecursion AreVisible texts → has_feed (joined 32 (word ∷ texts)) ≡ false
+feedless word texts seen all = list_any-append (λ byte. byte == 10) word (fields 32 texts) ∙ or_from (has_feed word) (has_feed (fields 32 texts)) (no_feed word seen) (no_feeds texts all)

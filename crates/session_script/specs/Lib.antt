@@ -1,5 +1,8 @@
 pub mod Fields
-pub mod Line
+pub mod Kind
 pub mod Reading
-pub mod Print
 pub mod Word
+pub mod Line
+pub mod Fault
+pub mod EventReading
+pub mod Output

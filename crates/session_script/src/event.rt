@@ -17,9 +17,17 @@ pub enum Part {
         stamp: u64,
     },
     /// `len` bytes from `off` of the blob `b`.
-    BlobRange { b: BlobName, off: u64, len: u64 },
+    BlobRange {
+        b: BlobName,
+        off: u64,
+        len: u64,
+    },
     /// `len` bytes from `off` of the data handle in slot `k`; `len` is above 0.
-    HandleRange { k: u32, off: u64, len: u64 },
+    HandleRange {
+        k: u32,
+        off: u64,
+        len: u64,
+    },
 }
 
 /// The parts of a blob, in their order.
@@ -33,9 +41,14 @@ pub enum Event {
     /// The limits of a session of version 2.
     Limits2(Limits),
     /// The renderer `r` of an origin begins.
-    Spawn { r: RendererId, origin: Origin },
+    Spawn {
+        r: RendererId,
+        origin: Origin,
+    },
     /// The renderer `r` dies.
-    Die { r: RendererId },
+    Die {
+        r: RendererId,
+    },
     /// The file `name` has these bytes since the change stamp `stamp`.
     File {
         name: FileName,
@@ -43,7 +56,9 @@ pub enum Event {
         bytes: Octets,
     },
     /// The file `name` is gone.
-    Gone { name: FileName },
+    Gone {
+        name: FileName,
+    },
     /// The renderer `r` builds the blob `b` of a content type and of parts.
     Build {
         r: RendererId,
@@ -75,9 +90,15 @@ pub enum Event {
         b: BlobName,
     },
     /// The renderer `r` lets a handle on the blob `b` go.
-    Drop { r: RendererId, b: BlobName },
+    Drop {
+        r: RendererId,
+        b: BlobName,
+    },
     /// The renderer `r` asks how the blob `b` stands.
-    Stat { r: RendererId, b: BlobName },
+    Stat {
+        r: RendererId,
+        b: BlobName,
+    },
     /// The renderer `r` registers the blob URL `text` for the blob `b`.
     Url {
         r: RendererId,
@@ -85,7 +106,10 @@ pub enum Event {
         text: UrlText,
     },
     /// The renderer `r` revokes the blob URL `text`.
-    Revoke { r: RendererId, text: UrlText },
+    Revoke {
+        r: RendererId,
+        text: UrlText,
+    },
     /// The renderer `r` opens the reader `q` at the offset `off` of the blob `b`, for `len`
     /// bytes or for all the rest.
     Read {
@@ -104,13 +128,22 @@ pub enum Event {
         len: Option<u64>,
     },
     /// The reader `q` gives its next bytes.
-    Step { q: ReaderId },
+    Step {
+        q: ReaderId,
+    },
     /// The renderer `r` closes its reader `q`.
-    Cancel { r: RendererId, q: ReaderId },
+    Cancel {
+        r: RendererId,
+        q: ReaderId,
+    },
     /// The disk has done the job `j`.
-    Disk { j: JobNo },
+    Disk {
+        j: JobNo,
+    },
     /// The disk has lost the job `j`.
-    Lost { j: JobNo },
+    Lost {
+        j: JobNo,
+    },
     /// What the store holds is counted.
     Count,
     /// The session ends.

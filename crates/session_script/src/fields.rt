@@ -1,22 +1,21 @@
-//! The fields of a line, taken one by one.
+//! The fields of a line or of a part, taken one by one.
 
-ghost use Rattle.std.specs.Prelude.{◌≡◌, ◌≢◌, ◌==◌, ◌∷◌, position, [], ℕ, ◌^◌, ◌<◌, true, decimal, option_copied, option_map, MatchOption, MatchResult, IfSome};
-ghost use Rattle.hex.specs.Hex.{IsBytes};
-ghost use Rattle.blob_words.specs.BlobName.{name_text};
-ghost use Rattle.blob_words.specs.Origin.{is_origin};
-ghost use Rattle.session_script.specs.Fields.{hex_text, len_text};
-ghost use Rattle.session_script.specs.Reading.{split, split_rest, TakesField};
+ghost use Rattle.std.specs.Prelude.{◌≡◌, ◌==◌, ◌∷◌, position, count_by, [], option_map, MatchOption, length};
+ghost use Rattle.session_script.specs.Kind.{IsFirstFault, IsRowFault};
+ghost use Rattle.std.specs.Prelude.{◌≤◌};
+ghost use Rattle.session_script.specs.Reading.{split, split_rest, IsReading, IsTaken};
 
-use crate::field;
+use crate::field::Field;
 use crate::line_fault::LineFault;
-use blob_words::{BlobName, Octets, Origin, ReaderId, RendererId};
+use crate::row::Row;
 use std::alloc::Global;
 use std::marker::Model;
 
-/// What is left of a line. Contracts see its fields, which one space parts.
+/// What is left of a line or of a part. Contracts see its fields, which one separator parts.
 #[derive(Drop)]
 pub struct Fields<'a> {
-    /// The bytes behind the space after the last field that was taken; none at the end.
+    separator: u8,
+    /// The bytes behind the separator after the last field that was taken; none at the end.
     rest: Option<&'a [u8]>,
 }
 
@@ -26,20 +25,33 @@ impl<'a> Model for Fields<'a> {
 
     ghost Value = { List (List ℕ) };
 
-    ghost view = { λ fields. split_rest (option_map (λ text. text.now) fields.rest) };
+    ghost view = { λ fields. split_rest fields.separator (option_map (λ text. text.now) fields.rest) };
 }
 
-fn find_space(text: &[u8]) -> Option<usize>
-    ensures { result ≡ position (λ byte. byte == 32) text.now }
+fn find_separator(separator: u8, text: &[u8]) -> Option<usize>
+    ensures { result ≡ position (λ byte. byte == separator) text.now }
 {
-    text.iter().position(|byte| *byte == b' ')
+    text.iter().position(|byte| *byte == separator)
 }
 
-// The text up to the first space, and what stands behind that space.
-fn cut(text: &[u8]) -> (&[u8], Option<&[u8]>)
-    ensures { split text.now ≡ result.0.now ∷ split_rest (option_map (λ rest. rest.now) result.1) }
+fn count_separators(separator: u8, text: &[u8]) -> usize
+    ensures { result ≡ count_by (λ byte. byte == separator) text.now }
 {
-    let Some(at) = find_space(text) else {
+    text.iter().filter(|byte| **byte == separator).count()
+}
+
+fn count_fields(separator: u8, text: &[u8]) -> usize
+    ensures { result ≡ length (split separator text.now) }
+{
+    let _len = text.len();
+    count_separators(separator, text) + 1
+}
+
+// The text up to the first separator, and what stands behind it.
+fn cut(separator: u8, text: &[u8]) -> (&[u8], Option<&[u8]>)
+    ensures { split separator text.now ≡ result.0.now ∷ split_rest separator (option_map (λ rest. rest.now) result.1) }
+{
+    let Some(at) = find_separator(separator, text) else {
         return (text, None);
     };
     let (field, _) = text.split_at(at);
@@ -48,11 +60,14 @@ fn cut(text: &[u8]) -> (&[u8], Option<&[u8]>)
 }
 
 impl<'a> Fields<'a> {
-    /// The fields of a whole line.
-    pub fn new(line: &'a [u8]) -> Fields<'a>
-        ensures { result ≡ split line.now }
+    /// The fields of a whole line or part.
+    pub fn new(separator: u8, text: &'a [u8]) -> Fields<'a>
+        ensures { result ≡ split separator text.now }
     {
-        Fields { rest: Some(line) }
+        Fields {
+            separator,
+            rest: Some(text),
+        }
     }
 
     /// Takes the next field, where there is one.
@@ -61,7 +76,7 @@ impl<'a> Fields<'a> {
     {
         match self.rest {
             Some(text) => {
-                let (field, rest) = cut(text);
+                let (field, rest) = cut(self.separator, text);
                 self.rest = rest;
                 Some(field)
             }
@@ -69,92 +84,34 @@ impl<'a> Fields<'a> {
         }
     }
 
-    /// Nothing, where the line has ended.
-    pub fn end(&self) -> Result<(), LineFault>
-        ensures { MatchResult result (λ _. self.now ≡ []) (λ fault. (fault ≡ LineFault.Unbuilt) × (self.now ≢ [])) }
+    /// How many fields are left.
+    pub fn count(&self) -> usize
+        ensures { result ≡ length self.now }
     {
         match self.rest {
-            Some(_) => Err(LineFault::Unbuilt),
-            None => Ok(()),
+            Some(text) => count_fields(self.separator, text),
+            None => 0,
         }
     }
 
-    /// Takes a number.
-    pub fn number(&mut self) -> Result<u64, LineFault>
-        ensures { TakesField (λ n. n < 2 ^ 64) decimal self.old self.new result }
+    /// Takes a value; there is a field.
+    pub fn take<A: Field>(&mut self, alloc: Global) -> Result<A, LineFault>
+        requires { 1 ≤ length self.old }
+        ensures { IsTaken A.kind A.Fits A.spell self.old self.new result }
     {
         match self.next() {
-            Some(text) => field::read_number(text),
-            None => Err(LineFault::Unbuilt),
+            Some(text) => A::read(alloc, text),
+            None => Err(LineFault::Fields),
         }
     }
 
-    fn number_32(&mut self) -> Result<u32, LineFault>
-        ensures { TakesField (λ n. n < 2 ^ 32) decimal self.old self.new result }
+    /// Takes all the fields of a row.
+    pub fn row<R: Row>(&mut self, alloc: Global) -> Result<R, LineFault>
+        ensures { IsReading (IsRowFault R.kinds) R.Fit R.spell self.old result }
     {
-        match self.next() {
-            Some(text) => field::read_number_32(text),
-            None => Err(LineFault::Unbuilt),
+        if self.count() != R::COUNT {
+            return Err(LineFault::Fields);
         }
-    }
-
-    /// Takes the number of a renderer.
-    pub fn renderer(&mut self) -> Result<RendererId, LineFault>
-        ensures { TakesField (λ (r : RendererId). r.0 < 2 ^ 32) (λ r. decimal r.0) self.old self.new result }
-    {
-        match self.number_32() {
-            Ok(number) => Ok(RendererId(number)),
-            Err(fault) => Err(fault),
-        }
-    }
-
-    /// Takes the number of a reader.
-    pub fn reader(&mut self) -> Result<ReaderId, LineFault>
-        ensures { TakesField (λ (q : ReaderId). q.0 < 2 ^ 32) (λ q. decimal q.0) self.old self.new result }
-    {
-        match self.number_32() {
-            Ok(number) => Ok(ReaderId(number)),
-            Err(fault) => Err(fault),
-        }
-    }
-
-    /// Takes a number, or `_` for none.
-    pub fn len(&mut self) -> Result<Option<u64>, LineFault>
-        ensures { TakesField (λ len. IfSome len (λ n. n < 2 ^ 64)) len_text self.old self.new result }
-    {
-        match self.next() {
-            Some(text) => field::read_len(text),
-            None => Err(LineFault::Unbuilt),
-        }
-    }
-
-    /// Takes the name of a blob.
-    pub fn name(&mut self) -> Result<BlobName, LineFault>
-        ensures { TakesField (λ b. b < 2 ^ 128) name_text self.old self.new result }
-    {
-        match self.next() {
-            Some(text) => field::read_name(text),
-            None => Err(LineFault::Unbuilt),
-        }
-    }
-
-    /// Takes an origin.
-    pub fn origin(&mut self, alloc: Global) -> Result<Origin, LineFault>
-        ensures { TakesField (λ origin. is_origin origin ≡ true) (λ origin. origin) self.old self.new result }
-    {
-        match self.next() {
-            Some(text) => field::read_origin(alloc, text),
-            None => Err(LineFault::Unbuilt),
-        }
-    }
-
-    /// Takes a content type. Only the empty one is read so far.
-    pub fn kind(&mut self, alloc: Global) -> Result<Octets, LineFault>
-        ensures { TakesField (λ kind. kind ≡ []) hex_text self.old self.new result }
-    {
-        match self.next() {
-            Some(text) => field::read_kind(alloc, text),
-            None => Err(LineFault::Unbuilt),
-        }
+        R::read(alloc, self)
     }
 }

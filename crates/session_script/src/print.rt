@@ -1,265 +1,152 @@
-//! Fields and the lines of events, put at the end of some bytes.
+//! The lines of events, put and printed.
 
-ghost use Rattle.std.specs.Prelude.{◌≡◌, ◌∷◌, ◌++◌, ◌<◌, ◌≤◌, ◌*◌, length, take, drop, decimal, codes, map, OnOk, OnErr};
-ghost use Rattle.std.specs.List.{flat_map};
-ghost use Rattle.hex.specs.Hex.{encode_lower};
-ghost use Rattle.blob_words.specs.BlobName.{name_text};
-ghost use Rattle.session_script.specs.Fields.{fields, hex_text, len_text};
-ghost use Rattle.session_script.specs.Line.{line_of, part_text};
-ghost use Rattle.session_script.specs.Print.{IsFront};
+ghost use Rattle.std.specs.Prelude.{◌≡◌, ◌++◌, ◌≤◌, map, decimal, OnOk, OnErr};
+ghost use Rattle.blob_source.specs.Faults.{Rose};
+ghost use Rattle.session_script.specs.Fields.{fields};
+ghost use Rattle.session_script.specs.Line.{limit_numbers, word_of, event_fields, line_of};
+ghost use Rattle.session_script.specs.Output.{output, IsPut, IsStreamed};
 
-use crate::event::{Event, Part, Parts};
-use blob_words::{BlobName, Limits, NoMemory, Octets, Origin, ReaderId, RendererId};
+use crate::buffer::Buffer;
+use crate::event::{Event, Parts};
+use crate::field::Spell;
+use crate::put::{put_each, put_five, put_four, put_one, put_seven, put_six, put_three, put_two};
+use crate::stream::{print, stream};
+use crate::word::Word;
+use blob_source::Sink;
+use blob_words::{BlobName, Failed, Limits, NoMemory, Octets, RendererId};
+use std::alloc::Global;
 
-/// The most bytes that are turned into digits at once.
-const CHUNK: usize = 64;
-
-/// Puts a space and a text at the end.
-pub fn push_text(out: &mut Octets, text: &[u8]) -> Result<(), NoMemory>
-    ensures ok { OnOk result (out.new ≡ out.old ++ 32 ∷ text.now) }
-    ensures kept { IsFront out.old out.new }
+fn word_of(event: &Event) -> Word
+    ensures { result ≡ word_of event.now }
 {
-    out.push(b' ')?;
-    out.extend_from_slice(text)
-}
-
-// Writes the digits of a number so that they end where `out` ends, and returns where they begin.
-fn write_digits(number: u64, out: &mut [u8; 20]) -> usize
-    ensures start { result ≤ 20 }
-    ensures digits { drop result out.new ≡ decimal number }
-{
-    let mut left = number;
-    let mut at = 19;
-    while left >= 10 {
-        out[at] = b'0' + (left % 10) as u8;
-        left /= 10;
-        at -= 1;
-    }
-    out[at] = b'0' + left as u8;
-    at
-}
-
-/// Puts a space and a number in decimal digits at the end.
-pub fn push_number(out: &mut Octets, number: u64) -> Result<(), NoMemory>
-    ensures ok { OnOk result (out.new ≡ out.old ++ 32 ∷ decimal number) }
-    ensures kept { IsFront out.old out.new }
-{
-    let mut digits = [0u8; 20];
-    let start = write_digits(number, &mut digits);
-    push_text(out, &digits[start..])
-}
-
-/// Puts a space and the 36 bytes of a name at the end.
-pub fn push_name(out: &mut Octets, name: &BlobName) -> Result<(), NoMemory>
-    ensures ok { OnOk result (out.new ≡ out.old ++ 32 ∷ name_text name.now) }
-    ensures kept { IsFront out.old out.new }
-{
-    let mut text = [0u8; 36];
-    name.write_text(&mut text);
-    push_text(out, text.as_slice())
-}
-
-/// Puts a space and a length, or `_` where there is none, at the end.
-pub fn push_len(out: &mut Octets, len: Option<u64>) -> Result<(), NoMemory>
-    ensures ok { OnOk result (out.new ≡ out.old ++ 32 ∷ len_text len) }
-    ensures kept { IsFront out.old out.new }
-{
-    match len {
-        Some(len) => push_number(out, len),
-        None => push_text(out, b"_"),
+    match event {
+        Event::Limits(_) => Word::Limits,
+        Event::Limits2(_) => Word::Limits2,
+        Event::Spawn { .. } => Word::Spawn,
+        Event::Die { .. } => Word::Die,
+        Event::File { .. } => Word::File,
+        Event::Gone { .. } => Word::Gone,
+        Event::Build { .. } => Word::Build,
+        Event::Slice { .. } => Word::Slice,
+        Event::Segment { .. } => Word::Segment,
+        Event::Pass { .. } => Word::Pass,
+        Event::Drop { .. } => Word::Drop,
+        Event::Stat { .. } => Word::Stat,
+        Event::Url { .. } => Word::Url,
+        Event::Revoke { .. } => Word::Revoke,
+        Event::Read { .. } => Word::Read,
+        Event::Fetch { .. } => Word::Fetch,
+        Event::Step { .. } => Word::Step,
+        Event::Cancel { .. } => Word::Cancel,
+        Event::Disk { .. } => Word::Disk,
+        Event::Lost { .. } => Word::Lost,
+        Event::Count => Word::Count,
+        Event::Finish => Word::Finish,
     }
 }
 
-/// Puts a space and the digits of some bytes, or `-` where there are none, at the end.
-pub fn push_hex(out: &mut Octets, bytes: &[u8]) -> Result<(), NoMemory>
-    ensures ok { OnOk result (out.new ≡ out.old ++ 32 ∷ hex_text bytes.now) }
-    ensures kept { IsFront out.old out.new }
+fn put_limits<K: Sink>(buffer: &mut Buffer, out: &mut K, limits: &Limits) -> Result<(), Failed>
+    ensures { IsPut (output (K.held out.old) (K.faults out.old) buffer.old) (output (K.held out.new) (K.faults out.new) buffer.new) (fields 32 (map decimal (limit_numbers limits.now))) result }
 {
-    out.push(b' ')?;
-    extend_hex(out, bytes)
+    put_seven(
+        buffer,
+        out,
+        b' ',
+        &limits.memory,
+        &limits.disk,
+        &limits.big,
+        &limits.inline_max,
+        &limits.segment,
+        &limits.page,
+        &limits.chunk,
+    )
 }
 
-fn extend_hex(out: &mut Octets, bytes: &[u8]) -> Result<(), NoMemory>
-    ensures ok { OnOk result (out.new ≡ out.old ++ hex_text bytes.now) }
-    ensures kept { IsFront out.old out.new }
-{
-    if bytes.is_empty() {
-        return out.push(b'-');
-    }
-    extend_digits(out, bytes)
-}
-
-fn extend_digits(out: &mut Octets, bytes: &[u8]) -> Result<(), NoMemory>
-    ensures ok { OnOk result (out.new ≡ out.old ++ encode_lower bytes.now) }
-    ensures kept { IsFront out.old out.new }
-{
-    let mut rest = bytes;
-    while !rest.is_empty() {
-        let (chunk, after) = rest.split_at(rest.len().min(CHUNK));
-        match extend_chunk(out, chunk) {
-            Ok(()) => {}
-            Err(NoMemory) => return Err(NoMemory),
-        }
-        rest = after;
-    }
-    Ok(())
-}
-
-fn extend_chunk(out: &mut Octets, chunk: &[u8]) -> Result<(), NoMemory>
-    requires { length chunk.now ≤ 64 }
-    ensures ok { OnOk result (out.new ≡ out.old ++ encode_lower chunk.now) }
-    ensures err { OnErr result (out.new ≡ out.old) }
-{
-    let mut digits = [0u8; 128];
-    let text = &mut digits[..2 * chunk.len()];
-    let _ = hex::encode_to_slice(chunk, &mut *text);
-    out.extend_from_slice(&*text)
-}
-
-fn push_part(out: &mut Octets, part: &Part) -> Result<(), NoMemory>
-    ensures ok { OnOk result (out.new ≡ out.old ++ 32 ∷ part_text part.now) }
-    ensures kept { IsFront out.old out.new }
-{
-    match part {
-        Part::Embedded(bytes) => {
-            push_text(out, b"b:")?;
-            extend_hex(out, bytes.as_slice())
-        }
-    }
-}
-
-fn push_parts(out: &mut Octets, parts: &Parts) -> Result<(), NoMemory>
-    ensures ok { OnOk result (out.new ≡ out.old ++ fields (map part_text parts.now)) }
-    ensures kept { IsFront out.old out.new }
-{
-    for part in parts.as_slice() {
-        match push_part(out, part) {
-            Ok(()) => {}
-            Err(NoMemory) => return Err(NoMemory),
-        }
-    }
-    Ok(())
-}
-
-fn push_numbers(out: &mut Octets, numbers: &[u64]) -> Result<(), NoMemory>
-    ensures ok { OnOk result (out.new ≡ out.old ++ fields (map decimal numbers.now)) }
-    ensures kept { IsFront out.old out.new }
-{
-    for number in numbers {
-        match push_number(out, *number) {
-            Ok(()) => {}
-            Err(NoMemory) => return Err(NoMemory),
-        }
-    }
-    Ok(())
-}
-
-fn push_limits(out: &mut Octets, limits: &Limits) -> Result<(), NoMemory>
-    ensures ok { OnOk result (out.new ≡ out.old ++ line_of (Event.Limits limits.now)) }
-    ensures kept { IsFront out.old out.new }
-{
-    let numbers = [
-        limits.memory,
-        limits.disk,
-        limits.big,
-        limits.inline_max,
-        limits.segment,
-        limits.page,
-        limits.chunk,
-    ];
-    out.extend_from_slice(b"limits")?;
-    push_numbers(out, numbers.as_slice())
-}
-
-fn push_spawn(out: &mut Octets, r: RendererId, origin: &Origin) -> Result<(), NoMemory>
-    ensures ok { OnOk result (out.new ≡ out.old ++ line_of (Event.Spawn r origin.now)) }
-    ensures kept { IsFront out.old out.new }
-{
-    out.extend_from_slice(b"spawn")?;
-    push_number(out, u64::from(r.0))?;
-    push_text(out, origin.as_slice())
-}
-
-fn push_build(
-    out: &mut Octets,
-    r: RendererId,
+fn put_build<K: Sink>(
+    buffer: &mut Buffer,
+    out: &mut K,
+    r: &RendererId,
     b: &BlobName,
     kind: &Octets,
     parts: &Parts,
-) -> Result<(), NoMemory>
-    ensures ok { OnOk result (out.new ≡ out.old ++ line_of (Event.Build r b.now kind.now parts.now)) }
-    ensures kept { IsFront out.old out.new }
+) -> Result<(), Failed>
+    ensures { IsPut (output (K.held out.old) (K.faults out.old) buffer.old) (output (K.held out.new) (K.faults out.new) buffer.new) (fields 32 (event_fields (Event.Build r.now b.now kind.now parts.now))) result }
 {
-    out.extend_from_slice(b"build")?;
-    push_number(out, u64::from(r.0))?;
-    push_name(out, b)?;
-    push_hex(out, kind.as_slice())?;
-    push_parts(out, parts)
-}
-
-fn push_drop(out: &mut Octets, r: RendererId, b: &BlobName) -> Result<(), NoMemory>
-    ensures ok { OnOk result (out.new ≡ out.old ++ line_of (Event.Drop r b.now)) }
-    ensures kept { IsFront out.old out.new }
-{
-    out.extend_from_slice(b"drop")?;
-    push_number(out, u64::from(r.0))?;
-    push_name(out, b)
-}
-
-fn push_read(
-    out: &mut Octets,
-    r: RendererId,
-    q: ReaderId,
-    b: &BlobName,
-    off: u64,
-    len: Option<u64>,
-) -> Result<(), NoMemory>
-    ensures ok { OnOk result (out.new ≡ out.old ++ line_of (Event.Read r q b.now off len)) }
-    ensures kept { IsFront out.old out.new }
-{
-    out.extend_from_slice(b"read")?;
-    push_number(out, u64::from(r.0))?;
-    push_number(out, u64::from(q.0))?;
-    push_name(out, b)?;
-    push_number(out, off)?;
-    push_len(out, len)
-}
-
-fn push_step(out: &mut Octets, q: ReaderId) -> Result<(), NoMemory>
-    ensures ok { OnOk result (out.new ≡ out.old ++ line_of (Event.Step q)) }
-    ensures kept { IsFront out.old out.new }
-{
-    out.extend_from_slice(b"step")?;
-    push_number(out, u64::from(q.0))
-}
-
-fn push_event(out: &mut Octets, event: &Event) -> Result<(), NoMemory>
-    ensures ok { OnOk result (out.new ≡ out.old ++ line_of event.now) }
-    ensures kept { IsFront out.old out.new }
-{
-    match event {
-        Event::Limits(limits) => push_limits(out, limits),
-        Event::Spawn { r, origin } => push_spawn(out, *r, origin),
-        Event::Build { r, b, kind, parts } => push_build(out, *r, b, kind, parts),
-        Event::Drop { r, b } => push_drop(out, *r, b),
-        Event::Read { r, q, b, off, len } => push_read(out, *r, *q, b, *off, *len),
-        Event::Step { q } => push_step(out, *q),
-        Event::Finish => out.extend_from_slice(b"end"),
+    match put_three(buffer, out, b' ', r, b, kind) {
+        Ok(()) => put_each(buffer, out, b' ', parts.as_slice()),
+        Err(Failed) => Err(Failed),
     }
 }
 
-/// Puts the line of an event at the end, without a line feed. After want of memory the bytes are
-/// as they were.
-pub fn print_event(event: &Event, out: &mut Octets) -> Result<(), NoMemory>
+fn put_own<K: Sink>(buffer: &mut Buffer, out: &mut K, event: &Event) -> Result<(), Failed>
+    ensures { IsPut (output (K.held out.old) (K.faults out.old) buffer.old) (output (K.held out.new) (K.faults out.new) buffer.new) (fields 32 (event_fields event.now)) result }
+{
+    match event {
+        Event::Limits(limits) => put_limits(buffer, out, limits),
+        Event::Limits2(limits) => put_limits(buffer, out, limits),
+        Event::Spawn { r, origin } => put_two(buffer, out, b' ', r, origin),
+        Event::Die { r } => put_one(buffer, out, b' ', r),
+        Event::File { name, stamp, bytes } => put_three(buffer, out, b' ', name, stamp, bytes),
+        Event::Gone { name } => put_one(buffer, out, b' ', name),
+        Event::Slice {
+            r,
+            b,
+            src,
+            start,
+            end,
+            kind,
+        } => put_six(buffer, out, b' ', r, b, src, start, end, kind),
+        Event::Segment { r, b, seg, bytes } => put_four(buffer, out, b' ', r, b, seg, bytes),
+        Event::Pass { r, to, b } => put_three(buffer, out, b' ', r, to, b),
+        Event::Drop { r, b } => put_two(buffer, out, b' ', r, b),
+        Event::Stat { r, b } => put_two(buffer, out, b' ', r, b),
+        Event::Url { r, b, text } => put_three(buffer, out, b' ', r, b, text),
+        Event::Revoke { r, text } => put_two(buffer, out, b' ', r, text),
+        Event::Read { r, q, b, off, len } => put_five(buffer, out, b' ', r, q, b, off, len),
+        Event::Fetch {
+            r,
+            q,
+            text,
+            off,
+            len,
+        } => put_five(buffer, out, b' ', r, q, text, off, len),
+        Event::Step { q } => put_one(buffer, out, b' ', q),
+        Event::Cancel { r, q } => put_two(buffer, out, b' ', r, q),
+        Event::Disk { j } => put_one(buffer, out, b' ', j),
+        Event::Lost { j } => put_one(buffer, out, b' ', j),
+        Event::Build { r, b, kind, parts } => put_build(buffer, out, r, b, kind, parts),
+        Event::Count => Ok(()),
+        Event::Finish => Ok(()),
+    }
+}
+
+impl Spell for Event {
+    ghost use Rattle.session_script.specs.Line.{line_of};
+
+    ghost spell = { line_of };
+
+    fn put<K: Sink>(&self, buffer: &mut Buffer, out: &mut K) -> Result<(), Failed> {
+        match buffer.put(out, word_of(self).text()) {
+            Ok(()) => put_own(buffer, out, self),
+            Err(Failed) => Err(Failed),
+        }
+    }
+}
+
+/// Writes the line of an event, without a line feed, in pieces of at most 4,096 bytes, and takes
+/// no memory. After `Failed`, which comes only where the sink's count rose, a front of the line
+/// was written that lacks some byte.
+pub fn stream_event<K: Sink>(event: &Event, out: &mut K) -> Result<(), Failed>
+    ensures { IsStreamed (K.held out.old) (K.held out.new) (K.faults out.old) (K.faults out.new) (line_of event.now) result }
+{
+    stream(event, out)
+}
+
+/// Puts the line of an event at the end of the bytes, without a line feed. After want of memory
+/// the bytes are as they were.
+pub fn print_event(alloc: Global, event: &Event, out: &mut Octets) -> Result<(), NoMemory>
     ensures ok { OnOk result (out.new ≡ out.old ++ line_of event.now) }
     ensures err { OnErr result (out.new ≡ out.old) }
 {
-    let len = out.len();
-    match push_event(out, event) {
-        Ok(()) => Ok(()),
-        Err(NoMemory) => {
-            out.truncate(len);
-            Err(NoMemory)
-        }
-    }
+    print(alloc, event, out)
 }

@@ -1,16 +1,9 @@
-use Rattle.std.proofs.Common.{◌≡◌, ◌<◌, ◌^◌, ◌∷◌, codes, sym, ◌∙◌, Err, rules}
-use Rattle.blob_words.specs.BlobName.{name_text}
-use Rattle.session_script.proofs.Lines.{build_words, same_rest}
-use Rattle.session_script.proofs.Takes.{refused}
+use Rattle.std.proofs.Common.{◌≡◌, ◌∷◌, [], refl, arith}
+use Rattle.session_script.proofs.Parts.{build_wrong}
 use Rattle.session_script.proofs.line.read_build.Goals as goal
 
-pub returns-in_err-b : goal.returns-in_err-b
-returns-in_err-b c =
-    let old = c.args.fields.now in
-    let is : c.from_residual-in_err-b.result ≡ Err c.in_err-b.field-0.0 = search rules in
-    rw is
-    (refused (λ b. b < 2 ^ 128) name_text (codes "build" ∷ old) c.renderer.new.self c.name.new.self c.in_err-b.field-0.0
-    (λ event fits same.
-    let words = build_words event old fits same in
-    (words.1, words.2, words.3, same_rest _ _ _ _ (sym c.in_ok-r.ensures.1 ∙ words.4)))
-    c.in_err-b.ensures)
+pub returns-in-Err-read_parts : goal.returns-in-Err-read_parts
+returns-in-Err-read_parts c =
+    build_wrong c.in-Err-read_parts.fault _ _ _ c.args.fields.now c.read.new.fields c.in-Ok.ensures.1 (omega arith, omega arith)
+    ((_, c.in-Ok.ensures.0.0, refl), ((_, c.in-Ok.ensures.0.1, refl), ((_, c.in-Ok.ensures.0.2.0, c.in-Ok.ensures.0.2.1, refl), tt)))
+    c.in-Err-read_parts.ensures

@@ -1,0 +1,143 @@
+//! Bytes, as pairs of hexadecimal digits in lower case; `-` stands for none.
+
+ghost use Rattle.std.specs.Prelude.{◌≡◌, ◌&&◌, ◌||◌, ◌*◌, ◌≤◌, ◌<◌, ℕ, length, refl};
+ghost use Rattle.std.specs.List.{list_all};
+ghost use Rattle.hex.specs.Hex.{IsBytes, encode_lower};
+ghost use Rattle.session_script.specs.Fields.{hex_text};
+ghost use Rattle.session_script.specs.Kind.{bytes, content_type, IsFaultOf};
+ghost use Rattle.session_script.specs.Line.{IsContentType};
+ghost use Rattle.session_script.specs.Output.{output, IsPut};
+ghost use Rattle.session_script.specs.Reading.{is_lower_digit, IsReading};
+
+use crate::buffer::Buffer;
+use crate::field::{Field, Spell};
+use crate::line_fault::LineFault;
+use blob_source::Sink;
+use blob_words::{Failed, Octets};
+use std::alloc::Global;
+
+/// The most bytes that are turned into digits at once.
+const CHUNK: usize = 64;
+
+/// The most bytes of a content type.
+const MAX_CONTENT_TYPE: usize = 255;
+
+/// A content type: at most 255 bytes.
+#[derive(Debug, Drop)]
+pub struct ContentType(pub Octets);
+
+fn is_lower_digit(byte: u8) -> bool
+    ensures { result ≡ is_lower_digit byte }
+{
+    byte.is_ascii_digit() || (b'a'..=b'f').contains(&byte)
+}
+
+fn are_lower_digits(text: &[u8]) -> bool
+    ensures { result ≡ list_all is_lower_digit text.now }
+{
+    text.iter().all(|byte| is_lower_digit(*byte))
+}
+
+fn read_hex(alloc: Global, text: &[u8]) -> Result<Octets, LineFault>
+    ensures { IsReading (IsFaultOf bytes) IsBytes hex_text text.now result }
+{
+    if text == b"-".as_slice() {
+        return Ok(Octets::new(alloc));
+    }
+    if text.is_empty() {
+        return Err(LineFault::Hex);
+    }
+    if text.len() % 2 == 1 {
+        return Err(LineFault::Hex);
+    }
+    if !are_lower_digits(text) {
+        return Err(LineFault::Hex);
+    }
+    // An even number of digits decodes, so only memory can fail.
+    match hex::decode(alloc, text) {
+        Ok(bytes) => Ok(Octets::from_vec(bytes)),
+        Err(_) => Err(LineFault::Memory),
+    }
+}
+
+fn put_hex<K: Sink>(buffer: &mut Buffer, out: &mut K, bytes: &[u8]) -> Result<(), Failed>
+    ensures { IsPut (output (K.held out.old) (K.faults out.old) buffer.old) (output (K.held out.new) (K.faults out.new) buffer.new) (hex_text bytes.now) result }
+{
+    if bytes.is_empty() {
+        return buffer.put_byte(out, b'-');
+    }
+    put_digits(buffer, out, bytes)
+}
+
+fn put_digits<K: Sink>(buffer: &mut Buffer, out: &mut K, bytes: &[u8]) -> Result<(), Failed>
+    ensures { IsPut (output (K.held out.old) (K.faults out.old) buffer.old) (output (K.held out.new) (K.faults out.new) buffer.new) (encode_lower bytes.now) result }
+{
+    let mut rest = bytes;
+    while !rest.is_empty() {
+        let (chunk, after) = rest.split_at(rest.len().min(CHUNK));
+        match put_chunk(buffer, out, chunk) {
+            Ok(()) => {}
+            Err(Failed) => return Err(Failed),
+        }
+        rest = after;
+    }
+    Ok(())
+}
+
+fn put_chunk<K: Sink>(buffer: &mut Buffer, out: &mut K, chunk: &[u8]) -> Result<(), Failed>
+    requires { length chunk.now ≤ 64 }
+    ensures { IsPut (output (K.held out.old) (K.faults out.old) buffer.old) (output (K.held out.new) (K.faults out.new) buffer.new) (encode_lower chunk.now) result }
+{
+    let mut digits = [0u8; 128];
+    let text = &mut digits[..2 * chunk.len()];
+    let _ = hex::encode_to_slice(chunk, &mut *text);
+    buffer.put(out, &*text)
+}
+
+impl Spell for Octets {
+    ghost spell = { hex_text };
+
+    fn put<K: Sink>(&self, buffer: &mut Buffer, out: &mut K) -> Result<(), Failed> {
+        put_hex(buffer, out, self.as_slice())
+    }
+}
+
+impl Field for Octets {
+    ghost kind = { bytes };
+
+    ghost Fits = { IsBytes };
+
+    ghost spelled = { λ value fits. (value, fits, refl) };
+
+    fn read(alloc: Global, text: &[u8]) -> Result<Self, LineFault> {
+        read_hex(alloc, text)
+    }
+}
+
+impl Spell for ContentType {
+    ghost spell = { λ kind. hex_text kind.0 };
+
+    fn put<K: Sink>(&self, buffer: &mut Buffer, out: &mut K) -> Result<(), Failed> {
+        put_hex(buffer, out, self.0.as_slice())
+    }
+}
+
+impl Field for ContentType {
+    ghost kind = { content_type };
+
+    ghost Fits = { λ kind. IsContentType kind.0 };
+
+    ghost spelled = { λ kind fits. (kind.0, fits.0, fits.1, refl) };
+
+    fn read(alloc: Global, text: &[u8]) -> Result<Self, LineFault> {
+        match read_hex(alloc, text) {
+            Ok(bytes) => {
+                if bytes.len() > MAX_CONTENT_TYPE {
+                    return Err(LineFault::Type);
+                }
+                Ok(ContentType(bytes))
+            }
+            Err(fault) => Err(fault),
+        }
+    }
+}

@@ -1,0 +1,160 @@
+//! The parts of a blob: one field of a `build` line each, whose own fields `:` parts.
+
+ghost use Rattle.std.specs.Prelude.{◌≡◌, ◌≤◌, length, map, IfOk};
+ghost use Rattle.std.specs.List.{AllByRecursion};
+ghost use Rattle.session_script.specs.Fault.{kinds_of_letter, IsPart, IsPartFault, IsFirstPartFault};
+ghost use Rattle.session_script.specs.Fields.{fields};
+ghost use Rattle.session_script.specs.Kind.{IsRowFault};
+ghost use Rattle.session_script.specs.Line.{letter_of, part_fields, part_text, PartHasText};
+ghost use Rattle.session_script.specs.Output.{output, IsPut};
+ghost use Rattle.session_script.specs.Reading.{split, IsReading};
+
+use crate::buffer::Buffer;
+use crate::event::{Part, Parts};
+use crate::field::{Positive, Spell};
+use crate::fields::Fields;
+use crate::letter::Letter;
+use crate::line_fault::LineFault;
+use crate::put::{put_four, put_one, put_three};
+use blob_source::Sink;
+use blob_words::{BlobName, Failed, FileName, Octets};
+use std::alloc::Global;
+
+fn read_embedded(alloc: Global, fields: &mut Fields<'_>) -> Result<Part, LineFault>
+    ensures { IsReading (IsRowFault (kinds_of_letter Letter.Embedded)) (λ part. PartHasText part × (letter_of part ≡ Letter.Embedded)) part_fields fields.old result }
+{
+    match fields.row::<(Octets,)>(alloc) {
+        Ok((bytes,)) => Ok(Part::Embedded(bytes)),
+        Err(fault) => Err(fault),
+    }
+}
+
+fn read_asked(alloc: Global, fields: &mut Fields<'_>) -> Result<Part, LineFault>
+    ensures { IsReading (IsRowFault (kinds_of_letter Letter.Asked)) (λ part. PartHasText part × (letter_of part ≡ Letter.Asked)) part_fields fields.old result }
+{
+    match fields.row::<(u64,)>(alloc) {
+        Ok((len,)) => Ok(Part::Asked(len)),
+        Err(fault) => Err(fault),
+    }
+}
+
+fn read_file_range(alloc: Global, fields: &mut Fields<'_>) -> Result<Part, LineFault>
+    ensures { IsReading (IsRowFault (kinds_of_letter Letter.FileRange)) (λ part. PartHasText part × (letter_of part ≡ Letter.FileRange)) part_fields fields.old result }
+{
+    match fields.row::<(FileName, u64, u64, u64)>(alloc) {
+        Ok((name, off, len, stamp)) => Ok(Part::FileRange {
+            name,
+            off,
+            len,
+            stamp,
+        }),
+        Err(fault) => Err(fault),
+    }
+}
+
+fn read_blob_range(alloc: Global, fields: &mut Fields<'_>) -> Result<Part, LineFault>
+    ensures { IsReading (IsRowFault (kinds_of_letter Letter.BlobRange)) (λ part. PartHasText part × (letter_of part ≡ Letter.BlobRange)) part_fields fields.old result }
+{
+    match fields.row::<(BlobName, u64, u64)>(alloc) {
+        Ok((b, off, len)) => Ok(Part::BlobRange { b, off, len }),
+        Err(fault) => Err(fault),
+    }
+}
+
+fn read_handle_range(alloc: Global, fields: &mut Fields<'_>) -> Result<Part, LineFault>
+    ensures { IsReading (IsRowFault (kinds_of_letter Letter.HandleRange)) (λ part. PartHasText part × (letter_of part ≡ Letter.HandleRange)) part_fields fields.old result }
+{
+    match fields.row::<(u32, u64, Positive)>(alloc) {
+        Ok((k, off, len)) => Ok(Part::HandleRange { k, off, len: len.0 }),
+        Err(fault) => Err(fault),
+    }
+}
+
+fn read_behind(alloc: Global, letter: Letter, fields: &mut Fields<'_>) -> Result<Part, LineFault>
+    ensures { IsReading (IsRowFault (kinds_of_letter letter)) (λ part. PartHasText part × (letter_of part ≡ letter)) part_fields fields.old result }
+{
+    match letter {
+        Letter::Embedded => read_embedded(alloc, fields),
+        Letter::Asked => read_asked(alloc, fields),
+        Letter::FileRange => read_file_range(alloc, fields),
+        Letter::BlobRange => read_blob_range(alloc, fields),
+        Letter::HandleRange => read_handle_range(alloc, fields),
+    }
+}
+
+/// The part that a field spells, or the one thing that is wrong with it.
+pub fn read_part(alloc: Global, text: &[u8]) -> Result<Part, LineFault>
+    ensures part { IfOk result (λ _. IsPart (split 58 text.now)) }
+    ensures read { IsReading (λ fault part. IsPartFault fault (split 58 part)) PartHasText part_text text.now result }
+{
+    let mut fields = Fields::new(b':', text);
+    let Some(first) = fields.next() else {
+        return Err(LineFault::Word);
+    };
+    if fields.count() == 0 {
+        return Err(LineFault::Word);
+    }
+    match Letter::from_text(first) {
+        Some(letter) => read_behind(alloc, letter, &mut fields),
+        None => Err(LineFault::Word),
+    }
+}
+
+/// The parts that the fields spell, or what is wrong with the first that spells none.
+pub fn read_parts(alloc: Global, fields: &mut Fields<'_>) -> Result<Parts, LineFault>
+    ensures { IsReading IsFirstPartFault (AllByRecursion PartHasText) (map part_text) fields.old result }
+{
+    let mut parts = Parts::new(alloc);
+    while let Some(text) = fields.next() {
+        match read_part(alloc, text) {
+            Ok(part) => match parts.push(part) {
+                Ok(()) => {}
+                Err(_) => return Err(LineFault::Memory),
+            },
+            Err(fault) => return Err(fault),
+        }
+    }
+    Ok(parts)
+}
+
+fn letter_of(part: &Part) -> Letter
+    ensures { result ≡ letter_of part.now }
+{
+    match part {
+        Part::Embedded(_) => Letter::Embedded,
+        Part::Asked(_) => Letter::Asked,
+        Part::FileRange { .. } => Letter::FileRange,
+        Part::BlobRange { .. } => Letter::BlobRange,
+        Part::HandleRange { .. } => Letter::HandleRange,
+    }
+}
+
+fn put_behind<K: Sink>(buffer: &mut Buffer, out: &mut K, part: &Part) -> Result<(), Failed>
+    ensures { IsPut (output (K.held out.old) (K.faults out.old) buffer.old) (output (K.held out.new) (K.faults out.new) buffer.new) (fields 58 (part_fields part.now)) result }
+{
+    match part {
+        Part::Embedded(bytes) => put_one(buffer, out, b':', bytes),
+        Part::Asked(len) => put_one(buffer, out, b':', len),
+        Part::FileRange {
+            name,
+            off,
+            len,
+            stamp,
+        } => put_four(buffer, out, b':', name, off, len, stamp),
+        Part::BlobRange { b, off, len } => put_three(buffer, out, b':', b, off, len),
+        Part::HandleRange { k, off, len } => put_three(buffer, out, b':', k, off, len),
+    }
+}
+
+impl Spell for Part {
+    ghost use Rattle.session_script.specs.Line.{part_text};
+
+    ghost spell = { part_text };
+
+    fn put<K: Sink>(&self, buffer: &mut Buffer, out: &mut K) -> Result<(), Failed> {
+        match buffer.put(out, letter_of(self).text()) {
+            Ok(()) => put_behind(buffer, out, self),
+            Err(Failed) => Err(Failed),
+        }
+    }
+}
