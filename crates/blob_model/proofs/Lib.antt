@@ -11,3 +11,8 @@ pub mod ReachLemmas
 pub mod StepLemmas
 pub mod CellLemmas
 pub mod LiveLemmas
+pub mod OrderLemmas
+pub mod KeptLemmas
+pub mod HeardLemmas
+pub mod LineLemmas
+pub mod GroupLemmas

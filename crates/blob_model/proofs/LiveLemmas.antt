@@ -71,12 +71,12 @@ rooted_from page h name (build ∷ earlier) later rooted e =
     (λ (more : named name earlier ≡ true). rooted_from page h name earlier (cond (is_rooted page h build.name || is_needed h later build.name) (build ∷ later) later) rooted more)
     (or_cases (build.name == name) (named name earlier) e)
 
-any_append_first : {X : Type 0} (test : X → Bool) (xs ys : List X) → list_any test xs ≡ true → list_any test (xs ++ ys) ≡ true
+pub any_append_first : {X : Type 0} (test : X → Bool) (xs ys : List X) → list_any test xs ≡ true → list_any test (xs ++ ys) ≡ true
 any_append_first test [] ys e = absurd (false_true e)
 any_append_first test (x ∷ xs) ys e =
     ⊎_elim (λ (here : test x ≡ true). or_first (test x) (list_any test (xs ++ ys)) here) (λ (more : list_any test xs ≡ true). or_second (test x) (list_any test (xs ++ ys)) (any_append_first test xs ys more)) (or_cases (test x) (list_any test xs) e)
 
-any_append_second : {X : Type 0} (test : X → Bool) (xs ys : List X) → list_any test ys ≡ true → list_any test (xs ++ ys) ≡ true
+pub any_append_second : {X : Type 0} (test : X → Bool) (xs ys : List X) → list_any test ys ≡ true → list_any test (xs ++ ys) ≡ true
 any_append_second test [] ys e = e
 any_append_second test (x ∷ xs) ys e = or_second (test x) (list_any test (xs ++ ys)) (any_append_second test xs ys e)
 

@@ -45,7 +45,7 @@ first_by : (s : Session) (h : History) (event : Event) (own : List Answer) (one 
 first_by s h event own one (Some why) accept is_own = inr (why, is_own)
 first_by s h event own one None accept is_own = inl (accept is_own)
 
-only_one : (own list : List Answer) → (own ≡ list) ⊎ ⊥ → own ≡ list
+pub only_one : (own list : List Answer) → (own ≡ list) ⊎ ⊥ → own ≡ list
 only_one own list (inl e) = e
 only_one own list (inr never) = absurd never
 
@@ -64,7 +64,7 @@ built_by s h event list own rest one e f =
 refused_first : (s : Session) (h : History) (event : Event) (why : Refusal) → builds s.limits.page (heard_first h event (answers.Refused why)) ≡ builds s.limits.page h
 refused_first s h event why = refl
 
-planned_first : (s : Session) (h : History) (renderer name : ℕ) (event : Event) (parts : List Part) (status : Option Status)
+pub planned_first : (s : Session) (h : History) (renderer name : ℕ) (event : Event) (parts : List Part) (status : Option Status)
     → heard_first h event (build_answer_by s h name parts status) ≡ heard h event (build_answer_by s h name parts status)
 planned_first s h renderer name event parts (Some status) = refl
 planned_first s h renderer name event parts None = refl
