@@ -16,3 +16,8 @@ pub mod KeptLemmas
 pub mod HeardLemmas
 pub mod LineLemmas
 pub mod GroupLemmas
+pub mod SameLemmas
+pub mod EndingLemmas
+pub mod PassLemmas
+pub mod LateLemmas
+pub mod DueLemmas

@@ -48,14 +48,18 @@ is_unwritten s h build = option_map_or (λ (name : ℕ). name == build.name) (un
 abbrev pub is_deserted : Session → History → Build → Bool
 is_deserted s h build = not (is_alive h build.builder) && (not (has_all s.limits h build) || not (is_granted h build))
 
--- 2: how an unfinished blob ends, by the first that applies
-abbrev pub ending : Session → History → Build → Option Answer
-ending s h build = first_that
-    ((is_unwritten s h build, answers.Broken build.name statuses.FileWriteFailed)
+-- 2: the ways in which an unfinished blob ends
+abbrev pub ending_tests : Session → History → Build → List (Bool × Answer)
+ending_tests s h build =
+    (is_unwritten s h build, answers.Broken build.name statuses.FileWriteFailed)
     ∷ (is_deserted s h build, answers.Broken build.name statuses.SourceDied)
     ∷ (list_any (is_broken h) (sources build.parts), answers.Broken build.name statuses.ReferencedBlobBroken)
     ∷ (is_complete s.limits h build, answers.Done build.name)
-    ∷ [])
+    ∷ []
+
+-- the first of them that applies
+abbrev pub ending : Session → History → Build → Option Answer
+ending s h build = first_that (ending_tests s h build)
 
 abbrev pub ending_answers : Session → History → Build → List Answer
 ending_answers s h build = if is_unfinished h build.name then option_to_list (ending s h build) else []
