@@ -114,7 +114,7 @@ removals_ask unremoved test g (page ∷ list) = go (test page) (λ next. removal
     go true rest =
         ((λ e. asked_all (said g (removal unremoved page)) (map (removal unremoved) (filter test list)) page.number (removal_asks unremoved g page)), rest (said g (removal unremoved page)))
 
-removals_late : (unremoved : List ℕ) (list : List Page) → AllLate (map (removal unremoved) list)
+pub removals_late : (unremoved : List ℕ) (list : List Page) → AllLate (map (removal unremoved) list)
 removals_late unremoved [] = tt
 removals_late unremoved (page ∷ list) = (go (list_any (λ (number : ℕ). number == page.number) unremoved), removals_late unremoved list)
   where

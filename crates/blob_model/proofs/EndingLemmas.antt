@@ -56,7 +56,7 @@ unstored_quiet : (h : History) (answer : Answer) → is_quiet answer ≡ true �
 unstored_quiet h (answers.StoreFailed file) e = absurd (false_true e)
 unstored_quiet h answer e = refl
 
-waiting_all : (h : History) (list : List Answer) (build : Build) → is_waiting (said_all h list) build ≡ true → is_waiting h build ≡ true
+pub waiting_all : (h : History) (list : List Answer) (build : Build) → is_waiting (said_all h list) build ≡ true → is_waiting h build ≡ true
 waiting_all h [] build e = e
 waiting_all h (answer ∷ list) build e = waiting_said h answer build (waiting_all (said h answer) list build e)
 

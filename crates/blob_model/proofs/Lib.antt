@@ -21,3 +21,5 @@ pub mod EndingLemmas
 pub mod PassLemmas
 pub mod LateLemmas
 pub mod DueLemmas
+pub mod GrantLemmas
+pub mod SettledLemmas

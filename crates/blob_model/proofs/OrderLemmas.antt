@@ -58,7 +58,7 @@ pub ordered_distinct : (earlier rest : List Build) → AreOrdered earlier rest �
 ordered_distinct earlier [] ordered = tt
 ordered_distinct earlier (build ∷ rest) ordered = (self_not_later build earlier rest ordered, ordered_distinct (earlier ++ build ∷ []) rest ordered.2)
 
-named_filter : (name : ℕ) (test : Build → Bool) (list : List Build) → named name list ≡ false → named name (filter test list) ≡ false
+pub named_filter : (name : ℕ) (test : Build → Bool) (list : List Build) → named name list ≡ false → named name (filter test list) ≡ false
 named_filter name test [] e = refl
 named_filter name test (build ∷ list) e =
     let parts = or_parts (build.name == name) (named name list) e in
