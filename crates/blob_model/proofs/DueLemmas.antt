@@ -35,18 +35,18 @@ holds_more page h list file all =
     let written : pages (said_all h list) ≡ pages h = pages_late h list all in
     let cells : live_cells page (said_all h list) ≡ live_cells page h = cells_late page h list all in
     let more : length (filter (λ (piece : Piece). is_page file.number (place_by (page_with (pages h) piece.number) (build_in (builds page h) piece.blob)))
-            (filter (λ (piece : Piece). is_granted_piece h (builds page h) piece && owns_some (live_cells page h) piece) (pieces page h)))
-        ≤ length (filter (λ (piece : Piece). is_page file.number (place_by (page_with (pages h) piece.number) (build_in (builds page h) piece.blob)))
-            (filter (λ (piece : Piece). is_granted_piece (said_all h list) (builds page h) piece && owns_some (live_cells page h) piece) (pieces page h))) =
-        more_filtered (λ (piece : Piece). is_page file.number (place_by (page_with (pages h) piece.number) (build_in (builds page h) piece.blob)))
-        (λ (piece : Piece). is_granted_piece h (builds page h) piece && owns_some (live_cells page h) piece)
-        (λ (piece : Piece). is_granted_piece (said_all h list) (builds page h) piece && owns_some (live_cells page h) piece) (pieces page h)
-        (λ piece e.
-            let parts = and_parts (is_granted_piece h (builds page h) piece) (owns_some (live_cells page h) piece) e in
-            λ i. granted (build_in (builds page h) piece.blob) parts.0 i && parts.1 i) in
+    (filter (λ (piece : Piece). is_granted_piece h (builds page h) piece && owns_some (live_cells page h) piece) (pieces page h)))
+    ≤ length (filter (λ (piece : Piece). is_page file.number (place_by (page_with (pages h) piece.number) (build_in (builds page h) piece.blob)))
+    (filter (λ (piece : Piece). is_granted_piece (said_all h list) (builds page h) piece && owns_some (live_cells page h) piece) (pieces page h))) =
+    more_filtered (λ (piece : Piece). is_page file.number (place_by (page_with (pages h) piece.number) (build_in (builds page h) piece.blob)))
+    (λ (piece : Piece). is_granted_piece h (builds page h) piece && owns_some (live_cells page h) piece)
+    (λ (piece : Piece). is_granted_piece (said_all h list) (builds page h) piece && owns_some (live_cells page h) piece) (pieces page h)
+    (λ piece e.
+    let parts = and_parts (is_granted_piece h (builds page h) piece) (owns_some (live_cells page h) piece) e in
+    λ i. granted (build_in (builds page h) piece.blob) parts.0 i && parts.1 i) in
     subst (λ (n : ℕ). length (in_page_of h (builds page h) file (reached page h)) ≤ n)
     (λ i. length (filter (λ (piece : Piece). is_page file.number (place_by (page_with (sym written i) piece.number) (build_in (sym blobs i) piece.blob)))
-            (filter (λ (piece : Piece). is_granted_piece (said_all h list) (sym blobs i) piece && owns_some (sym cells i) piece) (pieces_from page 0 (sym blobs i)))))
+    (filter (λ (piece : Piece). is_granted_piece (said_all h list) (sym blobs i) piece && owns_some (sym cells i) piece) (pieces_from page 0 (sym blobs i)))))
     more
   where
     granted : (found : Option Build) → option_map_or (is_granted h) found false ≡ true → option_map_or (is_granted (said_all h list)) found false ≡ true
@@ -72,12 +72,12 @@ files_more : (page : ℕ) (h : History) (list : List Answer) (number : ℕ) → 
 files_more page h list number all e =
     let written : pages (said_all h list) ≡ pages h = pages_late h list all in
     let more : list_any (λ (each : Page). each.number == number) (filter (λ (file : Page). nat_lt 0 (length (in_page_of (said_all h list) (builds page (said_all h list)) file (reached page (said_all h list))))) (pages h)) ≡ true =
-        any_filter_more (λ (each : Page). each.number == number) (λ (file : Page). nat_lt 0 (length (in_page_of h (builds page h) file (reached page h))))
-        (λ (file : Page). nat_lt 0 (length (in_page_of (said_all h list) (builds page (said_all h list)) file (reached page (said_all h list))))) (pages h)
-        (λ file some.
-            let a : 0 < length (in_page_of h (builds page h) file (reached page h)) = ltb-true 0 (length (in_page_of h (builds page h) file (reached page h))) some in
-            let b : length (in_page_of h (builds page h) file (reached page h)) ≤ length (in_page_of (said_all h list) (builds page (said_all h list)) file (reached page (said_all h list))) = holds_more page h list file all in
-            lt-ltb 0 (length (in_page_of (said_all h list) (builds page (said_all h list)) file (reached page (said_all h list)))) (omega (arith, a, b))) e in
+    any_filter_more (λ (each : Page). each.number == number) (λ (file : Page). nat_lt 0 (length (in_page_of h (builds page h) file (reached page h))))
+    (λ (file : Page). nat_lt 0 (length (in_page_of (said_all h list) (builds page (said_all h list)) file (reached page (said_all h list))))) (pages h)
+    (λ file some.
+    let a : 0 < length (in_page_of h (builds page h) file (reached page h)) = ltb-true 0 (length (in_page_of h (builds page h) file (reached page h))) some in
+    let b : length (in_page_of h (builds page h) file (reached page h)) ≤ length (in_page_of (said_all h list) (builds page (said_all h list)) file (reached page (said_all h list))) = holds_more page h list file all in
+    lt-ltb 0 (length (in_page_of (said_all h list) (builds page (said_all h list)) file (reached page (said_all h list)))) (omega (arith, a, b))) e in
     subst (λ (xs : List Page). list_any (λ (each : Page). each.number == number) (filter (λ (file : Page). nat_lt 0 (length (in_page_of (said_all h list) (builds page (said_all h list)) file (reached page (said_all h list))))) xs) ≡ true) (sym written) more
 
 -- ---- asked once
@@ -99,6 +99,7 @@ removal_asks unremoved h page = go (list_any (λ (number : ℕ). number == page.
   where
     last : list_any (λ (each : ℕ). each == page.number) (asked h ++ page.number ∷ []) ≡ true
     last = any_append_second (λ (each : ℕ). each == page.number) (asked h) (page.number ∷ []) (or_first (page.number == page.number) false (eq-eqb page.number page.number refl))
+
     go : (b : Bool) → was_asked (said h (if b then answers.Left (record { 0 = page.number }) else answers.Removed (record { 0 = page.number }))) page.number ≡ true
     go true = last
     go false = last
@@ -109,7 +110,7 @@ removals_ask unremoved test g (page ∷ list) = go (test page) (λ next. removal
   where
     go : (b : Bool) → ((next : History) → AllByRecursion (λ (each : Page). test each ≡ true → was_asked (said_all next (map (removal unremoved) (filter test list))) each.number ≡ true) list)
         → (b ≡ true → was_asked (said_all g (map (removal unremoved) (cond b (page ∷ filter test list) (filter test list)))) page.number ≡ true)
-            × AllByRecursion (λ (each : Page). test each ≡ true → was_asked (said_all g (map (removal unremoved) (cond b (page ∷ filter test list) (filter test list)))) each.number ≡ true) list
+        × AllByRecursion (λ (each : Page). test each ≡ true → was_asked (said_all g (map (removal unremoved) (cond b (page ∷ filter test list) (filter test list)))) each.number ≡ true) list
     go false rest = ((λ e. absurd (false_true e)), rest g)
     go true rest =
         ((λ e. asked_all (said g (removal unremoved page)) (map (removal unremoved) (filter test list)) page.number (removal_asks unremoved g page)), rest (said g (removal unremoved page)))
@@ -126,10 +127,10 @@ removals_late unremoved (page ∷ list) = (go (list_any (λ (number : ℕ). numb
 pub removals_done : (s : Session) (unremoved other : List ℕ) (h : History) (more : List Answer) → AllLate more → removals s other (said_all (said_all h (removals s unremoved h)) more) ≡ []
 removals_done s unremoved other h more late =
     let written : pages (said_all (said_all h (removals s unremoved h)) more) ≡ pages h =
-        pages_late (said_all h (removals s unremoved h)) more late ∙ pages_late h (removals s unremoved h) (removals_late unremoved (filter (is_due h (files s.limits.page h)) (pages h))) in
+    pages_late (said_all h (removals s unremoved h)) more late ∙ pages_late h (removals s unremoved h) (removals_late unremoved (filter (is_due h (files s.limits.page h)) (pages h))) in
     let none : filter (is_due (said_all (said_all h (removals s unremoved h)) more) (files s.limits.page (said_all (said_all h (removals s unremoved h)) more))) (pages h) ≡ [] =
-        filter_none (is_due (said_all (said_all h (removals s unremoved h)) more) (files s.limits.page (said_all (said_all h (removals s unremoved h)) more))) (pages h)
-        (each (pages h) (removals_ask unremoved (is_due h (files s.limits.page h)) h (pages h))) in
+    filter_none (is_due (said_all (said_all h (removals s unremoved h)) more) (files s.limits.page (said_all (said_all h (removals s unremoved h)) more))) (pages h)
+    (each (pages h) (removals_ask unremoved (is_due h (files s.limits.page h)) h (pages h))) in
     ap (λ (xs : List Page). map (removal other) (filter (is_due (said_all (said_all h (removals s unremoved h)) more) (files s.limits.page (said_all (said_all h (removals s unremoved h)) more))) xs)) written
     ∙ ap (λ (xs : List Page). map (removal other) xs) none
   where
@@ -137,6 +138,7 @@ removals_done s unremoved other h more late =
     held page e =
         files_more s.limits.page (said_all h (removals s unremoved h)) more page.number late
         (files_more s.limits.page h (removals s unremoved h) page.number (removals_late unremoved (filter (is_due h (files s.limits.page h)) (pages h))) e)
+
     one : (page : Page) → (is_due h (files s.limits.page h) page ≡ true → was_asked (said_all h (removals s unremoved h)) page.number ≡ true)
         → is_due (said_all (said_all h (removals s unremoved h)) more) (files s.limits.page (said_all (said_all h (removals s unremoved h)) more)) page ≡ false
     one page asks = go (has_page page.number (files s.limits.page h)) refl (was_asked h page.number) refl
@@ -146,7 +148,7 @@ removals_done s unremoved other h more late =
         go true e b f = rw (held page e) refl
         go false e true f =
             let later : was_asked (said_all (said_all h (removals s unremoved h)) more) page.number ≡ true =
-                asked_all (said_all h (removals s unremoved h)) more page.number (asked_all h (removals s unremoved h) page.number f) in
+            asked_all (said_all h (removals s unremoved h)) more page.number (asked_all h (removals s unremoved h) page.number f) in
             second (not (has_page page.number (files s.limits.page (said_all (said_all h (removals s unremoved h)) more)))) (was_asked (said_all (said_all h (removals s unremoved h)) more) page.number) later
           where
             second : (x y : Bool) → y ≡ true → (x && not y) ≡ false
@@ -162,6 +164,7 @@ removals_done s unremoved other h more late =
             second true true at = refl
             second true false at = sym at
             second false y at = refl
+
     each : (list : List Page) → AllByRecursion (λ (page : Page). is_due h (files s.limits.page h) page ≡ true → was_asked (said_all h (removals s unremoved h)) page.number ≡ true) list
         → AllByRecursion (λ (page : Page). is_due (said_all (said_all h (removals s unremoved h)) more) (files s.limits.page (said_all (said_all h (removals s unremoved h)) more)) page ≡ false) list
     each [] all = tt

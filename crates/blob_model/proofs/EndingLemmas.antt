@@ -116,24 +116,24 @@ ending_later s g list build quiet none same granted =
     let tests = none_applies (ending_tests s g build) none in
     let written = or_parts (option_map_or (λ (name : ℕ). name == build.name) (unstored g) false) (breaks_waiting s.version g && is_waiting g build) tests.0 in
     let stored : option_map_or (λ (name : ℕ). name == build.name) (unstored (said_all g list)) false ≡ false =
-        ap (λ (o : Option ℕ). option_map_or (λ (name : ℕ). name == build.name) o false) (kept_by_kind unstored is_quiet unstored_quiet g list quiet) ∙ written.0 in
+    ap (λ (o : Option ℕ). option_map_or (λ (name : ℕ). name == build.name) o false) (kept_by_kind unstored is_quiet unstored_quiet g list quiet) ∙ written.0 in
     let breaks : breaks_waiting s.version (said_all g list) ≡ breaks_waiting s.version g = kept_by_all (breaks_waiting s.version) (breaks_said s.version) g list in
     let waits : (breaks_waiting s.version (said_all g list) && is_waiting (said_all g list) build) ≡ false =
-        false_if (breaks_waiting s.version (said_all g list) && is_waiting (said_all g list) build) (breaks_waiting s.version g && is_waiting g build) written.1
-        (λ e.
-            let parts = and_parts (breaks_waiting s.version (said_all g list)) (is_waiting (said_all g list) build) e in
-            both (breaks_waiting s.version g) (is_waiting g build) (sym breaks ∙ parts.0) (waiting_all g list build parts.1)) in
+    false_if (breaks_waiting s.version (said_all g list) && is_waiting (said_all g list) build) (breaks_waiting s.version g && is_waiting g build) written.1
+    (λ e.
+    let parts = and_parts (breaks_waiting s.version (said_all g list)) (is_waiting (said_all g list) build) e in
+    both (breaks_waiting s.version g) (is_waiting g build) (sym breaks ∙ parts.0) (waiting_all g list build parts.1)) in
     let alive : is_alive (said_all g list) build.builder ≡ is_alive g build.builder = kept_by_all (λ (h : History). is_alive h build.builder) (λ h answer. refl) g list in
     let segments : has_all s.limits (said_all g list) build ≡ has_all s.limits g build = has_all_said s g list build in
     let deserted : is_deserted s (said_all g list) build ≡ false =
-        (λ i. not (alive i) && (not (segments i) || not (is_granted (said_all g list) build)))
-        ∙ deserted_later (is_alive g build.builder) (has_all s.limits g build) (is_granted g build) (is_granted (said_all g list) build) (is_granted_all g list build) tests.1.0 in
+    (λ i. not (alive i) && (not (segments i) || not (is_granted (said_all g list) build)))
+    ∙ deserted_later (is_alive g build.builder) (has_all s.limits g build) (is_granted g build) (is_granted (said_all g list) build) (is_granted_all g list build) tests.1.0 in
     let broken : list_any (is_broken (said_all g list)) (sources build.parts) ≡ false =
-        any_same_on (is_broken (said_all g list)) (is_broken g) (sources build.parts) (λ source has. (same source has).0) ∙ tests.1.1.0 in
+    any_same_on (is_broken (said_all g list)) (is_broken g) (sources build.parts) (λ source has. (same source has).0) ∙ tests.1.1.0 in
     let done : has_sources (said_all g list) build ≡ has_sources g build = all_same_on (is_done (said_all g list)) (is_done g) (sources build.parts) (λ source has. (same source has).1) in
     let complete : is_complete s.limits (said_all g list) build ≡ false =
-        (λ i. is_granted (said_all g list) build && segments i && done i)
-        ∙ complete_later (is_granted g build) (is_granted (said_all g list) build) (has_all s.limits g build) (has_sources g build) granted tests.1.1.1.0 in
+    (λ i. is_granted (said_all g list) build && segments i && done i)
+    ∙ complete_later (is_granted g build) (is_granted (said_all g list) build) (has_all s.limits g build) (has_sources g build) granted tests.1.1.1.0 in
     none_that (ending_tests s (said_all g list) build) (rw (stored, waits) refl, (deserted, (broken, (complete, tt))))
 
 -- ---- the pass

@@ -112,6 +112,7 @@ granted_waited s h (build ∷ more) name e = go (nat_le (memory s.limits.page h 
     next : (was_granted (said h (answers.Granted build.name)) name ≡ true) ⊎ (named name more ≡ true) → (was_granted h name ≡ true) ⊎ (named name (build ∷ more) ≡ true)
     next (inl was) = ⊎_elim (λ (here : (build.name == name) ≡ true). inr (or_first (build.name == name) (named name more) here)) (λ (before : was_granted h name ≡ true). inl before) (or_cases (build.name == name) (was_granted h name) was)
     next (inr later) = inr (or_second (build.name == name) (named name more) later)
+
     go : (b : Bool) → (was_granted (said_all (said h (answers.Granted build.name)) (grants_of s (said h (answers.Granted build.name)) more)) name ≡ true → (was_granted (said h (answers.Granted build.name)) name ≡ true) ⊎ (named name more ≡ true))
         → was_granted (said_all h (if b then answers.Granted build.name ∷ grants_of s (said h (answers.Granted build.name)) more else [])) name ≡ true → (was_granted h name ≡ true) ⊎ (named name (build ∷ more) ≡ true)
     go true rest f = next (rest f)
@@ -148,8 +149,7 @@ cannot_start h e = go (paging h)
 
 pub jobs_none : (s : Session) (h : History) → is_none (in_flight h) ≡ false → (page_jobs s h ≡ []) × (compactions s h ≡ [])
 jobs_none s h e =
-    let no_start = cannot_start h e in
-    (
+    let no_start = cannot_start h e in (
       (λ i. if no_start i && nat_lt 0 (length (waits s.limits.page h)) then page_job_of h (chosen s.limits h) else []),
       (λ i. if no_start i then option_to_list (option_map (compaction s h) (movable s h)) else []),
     )
@@ -184,11 +184,12 @@ jobs_done s h = ⊎_elim idle started (page_jobs_fly s h)
     started flies =
         let none = jobs_none s (said_all h (page_jobs s h)) flies in
         subst (λ (xs : List Answer). (page_jobs s (said_all (said_all h (page_jobs s h)) xs) ≡ []) × (compactions s (said_all (said_all h (page_jobs s h)) xs) ≡ [])) (sym none.1) none
+
     idle : page_jobs s h ≡ []
         → (page_jobs s (said_all (said_all h (page_jobs s h)) (compactions s (said_all h (page_jobs s h)))) ≡ []) × (compactions s (said_all (said_all h (page_jobs s h)) (compactions s (said_all h (page_jobs s h)))) ≡ [])
     idle none =
         subst (λ (xs : List Answer). (page_jobs s (said_all (said_all h xs) (compactions s (said_all h xs))) ≡ []) × (compactions s (said_all (said_all h xs) (compactions s (said_all h xs))) ≡ [])) (sym none)
         (⊎_elim
-          (λ (e : compactions s h ≡ []). subst (λ (xs : List Answer). (page_jobs s (said_all h xs) ≡ []) × (compactions s (said_all h xs) ≡ [])) (sym e) (none, e))
-          (λ (flies : is_none (in_flight (said_all h (compactions s h))) ≡ false). jobs_none s (said_all h (compactions s h)) flies)
-          (compactions_fly s h))
+        (λ (e : compactions s h ≡ []). subst (λ (xs : List Answer). (page_jobs s (said_all h xs) ≡ []) × (compactions s (said_all h xs) ≡ [])) (sym e) (none, e))
+        (λ (flies : is_none (in_flight (said_all h (compactions s h))) ≡ false). jobs_none s (said_all h (compactions s h)) flies)
+        (compactions_fly s h))

@@ -56,12 +56,12 @@ kept_other s h (events.Pass renderer to b) answer kept accepted other =
     let has : has_handle h renderer.0 b ≡ true = not_false (has_handle h renderer.0 b) tests.1.1.0 in
     same_all s h (events.Pass renderer to b) answer kept refl (λ name. refl)
     (λ holder name e.
-        ⊎_elim
-        (λ (here : ((to.0 == holder) && (b == name)) ≡ true).
-            let same : b ≡ name = eqb-true b name (and_parts (to.0 == holder) (b == name) here).1 in
-            subst (λ (n : ℕ). named n (builds s.limits.page h) ≡ true) same (kept.held renderer.0 b has))
-        (λ (before : nat_lt 0 (count h holder name) ≡ true). kept.held holder name before)
-        (held_pass ((to.0 == holder) && (b == name)) (count h holder name) e))
+    ⊎_elim
+    (λ (here : ((to.0 == holder) && (b == name)) ≡ true).
+    let same : b ≡ name = eqb-true b name (and_parts (to.0 == holder) (b == name) here).1 in
+    subst (λ (n : ℕ). named n (builds s.limits.page h) ≡ true) same (kept.held renderer.0 b has))
+    (λ (before : nat_lt 0 (count h holder name) ≡ true). kept.held holder name before)
+    (held_pass ((to.0 == holder) && (b == name)) (count h holder name) e))
 kept_other s h (events.Drop renderer b) answer kept accepted other =
     same_all s h (events.Drop renderer b) answer kept refl (λ name. refl) (λ holder name e. kept.held holder name (held_drop ((renderer.0 == holder) && (b == name)) (count h holder name) e))
 kept_other s h (events.Die renderer) answer kept accepted other =

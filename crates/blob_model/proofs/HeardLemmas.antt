@@ -66,10 +66,10 @@ shared_has_bytes input e = go (input_bytes input == 0) refl e
   where
     go : (b : Bool) → (input_bytes input == 0) ≡ b
         → is_shared (Some (cond b plans.None
-            (if nat_lt input.limits.memory (input_bytes input) && not (has_file_room input) then plans.OutOfMemory
-            else (if nat_lt input.limits.big (input_bytes input) && has_file_room input then file_plan input.pieces
-            else (if fits_inline input then plans.Inline
-            else shared_plan (div_ceil (input_bytes input) input.limits.segment)))))) ≡ true → 0 < input_bytes input
+        (if nat_lt input.limits.memory (input_bytes input) && not (has_file_room input) then plans.OutOfMemory
+        else (if nat_lt input.limits.big (input_bytes input) && has_file_room input then file_plan input.pieces
+        else (if fits_inline input then plans.Inline
+        else shared_plan (div_ceil (input_bytes input) input.limits.segment)))))) ≡ true → 0 < input_bytes input
     go true at f = absurd (false_true f)
     go false at f =
         let not_zero : input_bytes input ≡ 0 → ⊥ = λ z. false_true (sym at ∙ eq-eqb (input_bytes input) 0 z) in
@@ -167,10 +167,10 @@ pub new_lacking : (s : Session) (h : History) (event : Event) (answer : Answer) 
 new_lacking s h event answer renderer name kind parts quiet shared =
     let some : 0 < length (spans s.limits (new_build s h renderer name kind parts)) = go (line_status s h renderer name parts) refl shared in
     let list : missing s.limits (heard h event answer) (new_build s h renderer name kind parts) ≡ range_with_len 0 (length (spans s.limits (new_build s h renderer name kind parts))) =
-        ap (λ (came : List Arrival). filter (λ (segment : ℕ). not (has_come came segment)) (range_with_len 0 (length (spans s.limits (new_build s h renderer name kind parts))))) quiet
-        ∙ none_came (range_with_len 0 (length (spans s.limits (new_build s h renderer name kind parts)))) in
+    ap (λ (came : List Arrival). filter (λ (segment : ℕ). not (has_come came segment)) (range_with_len 0 (length (spans s.limits (new_build s h renderer name kind parts))))) quiet
+    ∙ none_came (range_with_len 0 (length (spans s.limits (new_build s h renderer name kind parts)))) in
     let count : length (missing s.limits (heard h event answer) (new_build s h renderer name kind parts)) ≡ length (spans s.limits (new_build s h renderer name kind parts)) =
-        ap (λ (xs : List ℕ). length xs) list ∙ length-range_with_len 0 (length (spans s.limits (new_build s h renderer name kind parts))) in
+    ap (λ (xs : List ℕ). length xs) list ∙ length-range_with_len 0 (length (spans s.limits (new_build s h renderer name kind parts))) in
     positive_not_zero (length (missing s.limits (heard h event answer) (new_build s h renderer name kind parts))) (omega (arith, some, count))
   where
     go : (status : Option Status) → line_status s h renderer name parts ≡ status → is_shared (plan_told (build_answer_by s h name parts status)) ≡ true

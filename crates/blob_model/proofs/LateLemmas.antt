@@ -104,14 +104,14 @@ pub cells_late : (page : ℕ) (h : History) (list : List Answer) → AllLate lis
 cells_late page h list all =
     ap (λ (xs : List Build). map (λ (build : Build). build.cells) (filter (λ (build : Build). not (is_broken (said_all h list) build.name)) xs)) (live_late page h list all)
     ∙ ap (λ (xs : List Build). map (λ (build : Build). build.cells) xs)
-      (filter_same (λ (build : Build). not (is_broken (said_all h list) build.name)) (λ (build : Build). not (is_broken h build.name)) (live page h) (λ build i. not (broken_late h list build.name all i)))
+    (filter_same (λ (build : Build). not (is_broken (said_all h list) build.name)) (λ (build : Build). not (is_broken h build.name)) (live page h) (λ build i. not (broken_late h list build.name all i)))
 
 pub drops_late : (s : Session) (h : History) (list : List Answer) → AllLate list → drops s (said_all h list) ≡ drops s h
 drops_late s h list all =
     ap (λ (xs : List Build). map dropping (filter (drops_test s (said_all h list)) (reverse xs))) (builds_all s.limits.page h list)
     ∙ ap (λ (xs : List Build). map dropping xs)
-      (filter_same (drops_test s (said_all h list)) (drops_test s h) (reverse (builds s.limits.page h))
-      (λ build i. is_none (ended_late h list build.name all i) && not (list_any (λ (each : Build). each.name == build.name) (live_late s.limits.page h list all i))))
+    (filter_same (drops_test s (said_all h list)) (drops_test s h) (reverse (builds s.limits.page h))
+    (λ build i. is_none (ended_late h list build.name all i) && not (list_any (λ (each : Build). each.name == build.name) (live_late s.limits.page h list all i))))
 
 -- ---- memory, where nothing is granted
 
@@ -126,11 +126,11 @@ reached_still page h list all =
     let cells : live_cells page (said_all h list) ≡ live_cells page h = cells_late page h list (all_late list all) in
     (λ i. reached_of (said_all h list) (blobs i) (cells i) (pieces_from page 0 (blobs i)))
     ∙ filter_same (λ (piece : Piece). is_granted_piece (said_all h list) (builds page h) piece && owns_some (live_cells page h) piece)
-      (λ (piece : Piece). is_granted_piece h (builds page h) piece && owns_some (live_cells page h) piece) (pieces page h)
-      (λ piece i.
-          option_same (is_granted (said_all h list)) (is_granted h) (build_in (builds page h) piece.blob)
-          (λ build j. option_map_or grants_at_once build.plan false || granted_still h list build.name all j) i
-          && owns_some (live_cells page h) piece)
+    (λ (piece : Piece). is_granted_piece h (builds page h) piece && owns_some (live_cells page h) piece) (pieces page h)
+    (λ piece i.
+    option_same (is_granted (said_all h list)) (is_granted h) (build_in (builds page h) piece.blob)
+    (λ build j. option_map_or grants_at_once build.plan false || granted_still h list build.name all j) i
+    && owns_some (live_cells page h) piece)
 
 pub memory_still : (page : ℕ) (h : History) (list : List Answer) → AllStill list → memory page (said_all h list) ≡ memory page h
 memory_still page h list all =
@@ -143,7 +143,7 @@ pub waits_still : (page : ℕ) (h : History) (list : List Answer) → AllStill l
 waits_still page h list all =
     ap (λ (xs : List Build). filter (is_waiting (said_all h list)) xs) (builds_all page h list)
     ∙ filter_same (is_waiting (said_all h list)) (is_waiting h) (builds page h)
-      (λ build i. is_none (ended_late h list build.name (all_late list all) i) && is_shared build.plan && not (granted_still h list build.name all i))
+    (λ build i. is_none (ended_late h list build.name (all_late list all) i) && is_shared build.plan && not (granted_still h list build.name all i))
 
 -- ---- page files, where more is granted
 

@@ -23,3 +23,4 @@ pub mod LateLemmas
 pub mod DueLemmas
 pub mod GrantLemmas
 pub mod SettledLemmas
+pub mod AfterLemmas

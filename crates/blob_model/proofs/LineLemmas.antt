@@ -52,8 +52,8 @@ lacking_on s h event answer list same all =
     for_each (λ (build : Build). is_waiting h build ≡ true → has_all s.limits h build ≡ false) (λ (build : Build). is_waiting (heard h event answer) build ≡ true → has_all s.limits (heard h event answer) build ≡ false)
     list
     (λ build was waits.
-        let before : has_all s.limits h build ≡ false = was (waiting_heard h event answer build waits) in
-        ap (λ (came : List Arrival). length (filter (λ (segment : ℕ). not (has_come came segment)) (range_with_len 0 (length (spans s.limits build)))) == 0) (same build.name) ∙ before)
+    let before : has_all s.limits h build ≡ false = was (waiting_heard h event answer build waits) in
+    ap (λ (came : List Arrival). length (filter (λ (segment : ℕ). not (has_come came segment)) (range_with_len 0 (length (spans s.limits build)))) == 0) (same build.name) ∙ before)
     all
 
 -- ---- lines that build
@@ -67,7 +67,7 @@ pub held_grows : (s : Session) (h : History) (build : Build) (renderer : ℕ) �
 held_grows s h build renderer kept holder name e =
     ⊎_elim
     (λ (here : ((renderer == holder) && (build.name == name)) ≡ true).
-        any_append_second (λ (each : Build). each.name == name) (builds s.limits.page h) (build ∷ []) (or_first (build.name == name) false (and_parts (renderer == holder) (build.name == name) here).1))
+    any_append_second (λ (each : Build). each.name == name) (builds s.limits.page h) (build ∷ []) (or_first (build.name == name) false (and_parts (renderer == holder) (build.name == name) here).1))
     (λ (before : nat_lt 0 (count h holder name) ≡ true). any_append_first (λ (each : Build). each.name == name) (builds s.limits.page h) (build ∷ []) (kept.held holder name before))
     (has_one ((renderer == holder) && (build.name == name)) (count h holder name) e)
 
@@ -77,21 +77,20 @@ none_append test xs ys e = contrary (list_any test xs) (list_any test (xs ++ ys)
 pub kept_build : (s : Session) (h : History) (renderer name : ℕ) (kind : List ℕ) (parts : List Part) (event : Event) → Kept s h → named name (builds s.limits.page h) ≡ false
     → ((n : ℕ) → arrivals (heard h event (build_answer s h renderer name parts)) n ≡ arrivals h n)
     → (AreOrdered [] (builds s.limits.page h ++ new_build s h renderer name kind parts ∷ []))
-        × (AllByRecursion (λ (build : Build). is_some build.plan ≡ false → is_unfinished (heard h event (build_answer s h renderer name parts)) build.name ≡ false) (builds s.limits.page h ++ new_build s h renderer name kind parts ∷ []))
-        × ((n : ℕ) → named n (builds s.limits.page h ++ new_build s h renderer name kind parts ∷ []) ≡ false → arrivals h n ≡ [])
-        × (AllByRecursion (λ (build : Build). is_waiting (heard h event (build_answer s h renderer name parts)) build ≡ true → has_all s.limits (heard h event (build_answer s h renderer name parts)) build ≡ false)
-            (builds s.limits.page h ++ new_build s h renderer name kind parts ∷ []))
+    × (AllByRecursion (λ (build : Build). is_some build.plan ≡ false → is_unfinished (heard h event (build_answer s h renderer name parts)) build.name ≡ false) (builds s.limits.page h ++ new_build s h renderer name kind parts ∷ []))
+    × ((n : ℕ) → named n (builds s.limits.page h ++ new_build s h renderer name kind parts ∷ []) ≡ false → arrivals h n ≡ [])
+    × (AllByRecursion (λ (build : Build). is_waiting (heard h event (build_answer s h renderer name parts)) build ≡ true → has_all s.limits (heard h event (build_answer s h renderer name parts)) build ≡ false)
+    (builds s.limits.page h ++ new_build s h renderer name kind parts ∷ []))
 kept_build s h renderer name kind parts event kept fresh same =
     let one = build_answer s h renderer name parts in
-    let build = new_build s h renderer name kind parts in
-    (
+    let build = new_build s h renderer name kind parts in (
       ordered_grows s h renderer name kind parts kept fresh,
       all_more (λ (each : Build). is_some each.plan ≡ false → is_unfinished (heard h event (build_answer s h renderer name parts)) each.name ≡ false) (builds s.limits.page h) (new_build s h renderer name kind parts)
-      (broke_on s h event (build_answer s h renderer name parts) (builds s.limits.page h) kept.broke) (new_broke s h event renderer name kind parts),
+          (broke_on s h event (build_answer s h renderer name parts) (builds s.limits.page h) kept.broke) (new_broke s h event renderer name kind parts),
       (λ n none. kept.quiet n (none_append (λ (each : Build). each.name == n) (builds s.limits.page h) (new_build s h renderer name kind parts ∷ []) none)),
       all_more (λ (each : Build). is_waiting (heard h event (build_answer s h renderer name parts)) each ≡ true → has_all s.limits (heard h event (build_answer s h renderer name parts)) each ≡ false)
-      (builds s.limits.page h) (new_build s h renderer name kind parts) (lacking_on s h event (build_answer s h renderer name parts) (builds s.limits.page h) same kept.lacking)
-      (λ waits. new_lacking s h event (build_answer s h renderer name parts) renderer name kind parts (same name ∙ kept.quiet name fresh)
+          (builds s.limits.page h) (new_build s h renderer name kind parts) (lacking_on s h event (build_answer s h renderer name parts) (builds s.limits.page h) same kept.lacking)
+          (λ waits. new_lacking s h event (build_answer s h renderer name parts) renderer name kind parts (same name ∙ kept.quiet name fresh)
           (and_parts (is_unfinished (heard h event (build_answer s h renderer name parts)) name) (is_shared build.plan) (and_parts (is_unfinished (heard h event (build_answer s h renderer name parts)) name && is_shared build.plan) _ waits).0).1),
     )
 
@@ -147,9 +146,11 @@ kept_segment s h answer renderer b segment bytes kept accepted =
     quiet_by name true e none member =
         let same : b ≡ name = eqb-true b name e in
         absurd (false_true (sym none ∙ subst (λ (n : ℕ). named n (builds s.limits.page h) ≡ true) same member))
+
     for_both : {X : Type 0} (P Q R : X → Type 0) (xs : List X) → ((x : X) → P x → Q x → R x) → AllByRecursion P xs → AllByRecursion Q xs → AllByRecursion R xs
     for_both P Q R [] f p q = tt
     for_both P Q R (x ∷ xs) f p q = (f x p.0 q.0, for_both P Q R xs f p.1 q.1)
+
     lacking_by : (build : Build) (c : Bool) → (b == build.name) ≡ c → (is_waiting h build ≡ true → has_all s.limits h build ≡ false) → build_in (builds s.limits.page h) build.name ≡ Some build
         → is_waiting h build ≡ true → (other : Build) → build_in (builds s.limits.page h) b ≡ Some other → is_granted h other ≡ true
         → (length (filter (λ (each : ℕ). not (has_come (cond c (arrivals h build.name ++ record { segment = segment; bytes = bytes } ∷ []) (arrivals h build.name)) each)) (range_with_len 0 (length (spans s.limits build)))) == 0) ≡ false
@@ -185,4 +186,3 @@ held_drop false n e = e
 pub held_die : (c : Bool) (n : ℕ) → nat_lt 0 (cond c 0 n) ≡ true → nat_lt 0 n ≡ true
 held_die true n e = absurd (false_true e)
 held_die false n e = e
-

@@ -21,12 +21,11 @@ pub ordered_more : (earlier rest : List Build) (build : Build) → AreOrdered ea
 ordered_more earlier [] build ordered fresh older =
     (subst (λ (list : List Build). named build.name list ≡ false) (append-nil earlier) fresh, (λ source planned has. subst (λ (list : List Build). named source list ≡ true) (append-nil earlier) (older source planned has)), tt)
 ordered_more earlier (first ∷ rest) build ordered fresh older =
-    let moved : (earlier ++ first ∷ []) ++ rest ≡ earlier ++ (first ∷ rest) = append_assoc earlier (first ∷ []) rest in
-    (
+    let moved : (earlier ++ first ∷ []) ++ rest ≡ earlier ++ (first ∷ rest) = append_assoc earlier (first ∷ []) rest in (
       ordered.0,
       ordered.1,
       ordered_more (earlier ++ first ∷ []) rest build ordered.2 (subst (λ (list : List Build). named build.name list ≡ false) (sym moved) fresh)
-      (λ source planned has. subst (λ (list : List Build). named source list ≡ true) (sym moved) (older source planned has)),
+          (λ source planned has. subst (λ (list : List Build). named source list ≡ true) (sym moved) (older source planned has)),
     )
 
 -- a name that an older blob has no later one has
@@ -83,11 +82,10 @@ found_head build rest = rw (eq-eqb build.name build.name refl) refl
 pub all_found : (whole rest : List Build) → Distinct rest → ((build : Build) → named build.name rest ≡ true → build_in whole build.name ≡ build_in rest build.name)
     → AllByRecursion (λ (build : Build). build_in whole build.name ≡ Some build) rest
 all_found whole [] d same = tt
-all_found whole (build ∷ rest) d same =
-    (
-      same build (or_first (build.name == build.name) (named build.name rest) (eq-eqb build.name build.name refl)) ∙ found_head build rest,
-      all_found whole rest d.1 (λ other member. same other (or_second (build.name == other.name) (named other.name rest) member) ∙ skip other member),
-    )
+all_found whole (build ∷ rest) d same = (
+  same build (or_first (build.name == build.name) (named build.name rest) (eq-eqb build.name build.name refl)) ∙ found_head build rest,
+  all_found whole rest d.1 (λ other member. same other (or_second (build.name == other.name) (named other.name rest) member) ∙ skip other member),
+)
   where
     skip : (other : Build) → named other.name rest ≡ true → build_in (build ∷ rest) other.name ≡ build_in rest other.name
     skip other member = go (build.name == other.name) refl

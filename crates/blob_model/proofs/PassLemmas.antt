@@ -34,7 +34,7 @@ pass_other s g [] name other = refl
 pass_other s g (build ∷ list) name other =
     let parts = or_parts (build.name == name) (named name list) other in
     let here : ended (said_all g (ending_answers s g build)) name ≡ ended g name =
-        one_by s g build (λ (xs : List Answer). ended (said_all g xs) name ≡ ended g name) refl (λ answer e. ending_only s g build answer name e parts.0) in
+    one_by s g build (λ (xs : List Answer). ended (said_all g xs) name ≡ ended g name) refl (λ answer e. ending_only s g build answer name e parts.0) in
     ap (λ (h : History). ended h name) (said_append g (ending_answers s g build) (endings_of s (said_all g (ending_answers s g build)) list))
     ∙ pass_other s (said_all g (ending_answers s g build)) list name parts.1 ∙ here
 
@@ -48,7 +48,7 @@ pass_grants : (s : Session) (g : History) (list : List Build) (name : ℕ) → w
 pass_grants s g [] name = refl
 pass_grants s g (build ∷ list) name =
     let here : was_granted (said_all g (ending_answers s g build)) name ≡ was_granted g name =
-        one_by s g build (λ (xs : List Answer). was_granted (said_all g xs) name ≡ was_granted g name) refl (λ answer e. ending_grants s g build answer name e) in
+    one_by s g build (λ (xs : List Answer). was_granted (said_all g xs) name ≡ was_granted g name) refl (λ answer e. ending_grants s g build answer name e) in
     ap (λ (h : History). was_granted h name) (said_append g (ending_answers s g build) (endings_of s (said_all g (ending_answers s g build)) list))
     ∙ pass_grants s (said_all g (ending_answers s g build)) list name ∙ here
 
@@ -69,29 +69,33 @@ pass_one s g earlier build list more ordered broke behind =
   where
     whole : said_all g (endings_of s g (build ∷ list) ++ more) ≡ said_all (said_all g (endings_of s g (build ∷ list))) more
     whole = said_append g (endings_of s g (build ∷ list)) more
+
     planned : is_unfinished g build.name ≡ true → is_some build.plan ≡ true
     planned e = pick (is_some build.plan) refl
       where
         pick : (b : Bool) → is_some build.plan ≡ b → b ≡ true
         pick true at = refl
         pick false at = absurd (false_true (sym (broke at) ∙ e))
+
     none : is_unfinished (said_all (said_all g (endings_of s g (build ∷ list))) more) build.name ≡ true → ending s g build ≡ None
     none still = look (ending s g build) refl
       where
         begun : is_unfinished g build.name ≡ true
         begun = unfinished_all g (endings_of s g (build ∷ list)) build.name (unfinished_all (said_all g (endings_of s g (build ∷ list))) more build.name still)
+
         look : (found : Option Answer) → ending s g build ≡ found → found ≡ None
         look None e = refl
         look (Some answer) e =
             let list_is : ending_answers s g build ≡ answer ∷ [] = (λ i. cond (begun i) (option_to_list (e i)) []) in
             let next : said_all g (endings_of s g (build ∷ list)) ≡ said_all (said_all g (ending_answers s g build)) (endings_of s (said_all g (ending_answers s g build)) list) =
-                said_append g (ending_answers s g build) (endings_of s (said_all g (ending_answers s g build)) list) in
+            said_append g (ending_answers s g build) (endings_of s (said_all g (ending_answers s g build)) list) in
             let later : is_unfinished (said_all (said_all g (ending_answers s g build)) (endings_of s (said_all g (ending_answers s g build)) list)) build.name ≡ true =
-                subst (λ (h : History). is_unfinished h build.name ≡ true) next (unfinished_all (said_all g (endings_of s g (build ∷ list))) more build.name still) in
+            subst (λ (h : History). is_unfinished h build.name ≡ true) next (unfinished_all (said_all g (endings_of s g (build ∷ list))) more build.name still) in
             let here : is_unfinished (said_all g (ending_answers s g build)) build.name ≡ true =
-                unfinished_all (said_all g (ending_answers s g build)) (endings_of s (said_all g (ending_answers s g build)) list) build.name later in
+            unfinished_all (said_all g (ending_answers s g build)) (endings_of s (said_all g (ending_answers s g build)) list) build.name later in
             let first : is_unfinished (said g answer) build.name ≡ true = subst (λ (xs : List Answer). is_unfinished (said_all g xs) build.name ≡ true) list_is here in
             absurd (false_true (sym (ending_ends s g build answer e) ∙ first))
+
     go : (b : Bool) → is_unfinished (said_all (said_all g (endings_of s g (build ∷ list))) more) build.name ≡ b
         → (if b then option_to_list (ending s (said_all (said_all g (endings_of s g (build ∷ list))) more) build) else []) ≡ []
     go false e = refl
@@ -99,18 +103,17 @@ pass_one s g earlier build list more ordered broke behind =
         let begun : is_unfinished g build.name ≡ true = unfinished_all g (endings_of s g (build ∷ list)) build.name (unfinished_all (said_all g (endings_of s g (build ∷ list))) more build.name e) in
         let passed : is_unfinished (said_all g (endings_of s g (build ∷ list))) build.name ≡ true = unfinished_all (said_all g (endings_of s g (build ∷ list))) more build.name e in
         let alone : (source : ℕ) → has_source build source ≡ true → ended (said_all g (endings_of s g (build ∷ list))) source ≡ ended g source =
-            λ source has. pass_other s g (build ∷ list) source (not_later source earlier (build ∷ list) ordered (ordered.1 source (planned begun) has)) in
+        λ source has. pass_other s g (build ∷ list) source (not_later source earlier (build ∷ list) ordered (ordered.1 source (planned begun) has)) in
         let later : ending s (said_all g (endings_of s g (build ∷ list) ++ more)) build ≡ None =
-            ending_later s g (endings_of s g (build ∷ list) ++ more) build (quiet_append (endings_of s g (build ∷ list)) more (pass_quiet s g (build ∷ list)) behind.quiet) (none e)
-            (λ source has.
-                (
-                  ap (λ (h : History). is_broken h source) whole ∙ behind.broken source ∙ ap (λ (o : Option Status). option_map_or is_broken_status o false) (alone source has),
-                  ap (λ (h : History). is_done h source) whole ∙ behind.done source ∙ ap (λ (o : Option Status). option_map_or is_done_status o false) (alone source has),
-                ))
-            (λ granted not_yet.
-                let now : is_granted (said_all (said_all g (endings_of s g (build ∷ list))) more) build ≡ true = subst (λ (h : History). is_granted h build ≡ true) whole granted in
-                let before : is_granted (said_all g (endings_of s g (build ∷ list))) build ≡ false = ap (λ (b : Bool). option_map_or grants_at_once build.plan false || b) (pass_grants s g (build ∷ list) build.name) ∙ not_yet in
-                sym (has_all_said s g (endings_of s g (build ∷ list)) build) ∙ behind.room.0 passed now before) in
+        ending_later s g (endings_of s g (build ∷ list) ++ more) build (quiet_append (endings_of s g (build ∷ list)) more (pass_quiet s g (build ∷ list)) behind.quiet) (none e)
+        (λ source has. (
+          ap (λ (h : History). is_broken h source) whole ∙ behind.broken source ∙ ap (λ (o : Option Status). option_map_or is_broken_status o false) (alone source has),
+          ap (λ (h : History). is_done h source) whole ∙ behind.done source ∙ ap (λ (o : Option Status). option_map_or is_done_status o false) (alone source has),
+        ))
+        (λ granted not_yet.
+        let now : is_granted (said_all (said_all g (endings_of s g (build ∷ list))) more) build ≡ true = subst (λ (h : History). is_granted h build ≡ true) whole granted in
+        let before : is_granted (said_all g (endings_of s g (build ∷ list))) build ≡ false = ap (λ (b : Bool). option_map_or grants_at_once build.plan false || b) (pass_grants s g (build ∷ list) build.name) ∙ not_yet in
+        sym (has_all_said s g (endings_of s g (build ∷ list)) build) ∙ behind.room.0 passed now before) in
         ap (λ (o : Option Answer). option_to_list o) (subst (λ (h : History). ending s h build ≡ None) whole later)
 
 pub pass_over : (s : Session) (g : History) (earlier list : List Build) (more : List Answer) → AreOrdered earlier list → AllByRecursion (λ (build : Build). is_some build.plan ≡ false → is_unfinished g build.name ≡ false) list
@@ -118,14 +121,13 @@ pub pass_over : (s : Session) (g : History) (earlier list : List Build) (more : 
 pass_over s g earlier [] more ordered broke behind = tt
 pass_over s g earlier (build ∷ list) more ordered broke behind =
     let next : said_all g (endings_of s g (build ∷ list)) ≡ said_all (said_all g (ending_answers s g build)) (endings_of s (said_all g (ending_answers s g build)) list) =
-        said_append g (ending_answers s g build) (endings_of s (said_all g (ending_answers s g build)) list) in
+    said_append g (ending_answers s g build) (endings_of s (said_all g (ending_answers s g build)) list) in
     let rest : Behind s (said_all (said_all g (ending_answers s g build)) (endings_of s (said_all g (ending_answers s g build)) list)) more list =
-        subst (λ (h : History). Behind s h more list) next (record { quiet = behind.quiet; broken = behind.broken; done = behind.done; room = behind.room.1 }) in
+    subst (λ (h : History). Behind s h more list) next (record { quiet = behind.quiet; broken = behind.broken; done = behind.done; room = behind.room.1 }) in
     let still : AllByRecursion (λ (each : Build). is_some each.plan ≡ false → is_unfinished (said_all g (ending_answers s g build)) each.name ≡ false) list =
-        for_each (λ (each : Build). is_some each.plan ≡ false → is_unfinished g each.name ≡ false) (λ (each : Build). is_some each.plan ≡ false → is_unfinished (said_all g (ending_answers s g build)) each.name ≡ false)
-        list (λ each was none. over (is_unfinished (said_all g (ending_answers s g build)) each.name) (is_unfinished g each.name) (was none) (unfinished_all g (ending_answers s g build) each.name)) broke.1 in
-    let tail = pass_over s (said_all g (ending_answers s g build)) (earlier ++ build ∷ []) list more ordered.2 still rest in
-    (
+    for_each (λ (each : Build). is_some each.plan ≡ false → is_unfinished g each.name ≡ false) (λ (each : Build). is_some each.plan ≡ false → is_unfinished (said_all g (ending_answers s g build)) each.name ≡ false)
+    list (λ each was none. over (is_unfinished (said_all g (ending_answers s g build)) each.name) (is_unfinished g each.name) (was none) (unfinished_all g (ending_answers s g build) each.name)) broke.1 in
+    let tail = pass_over s (said_all g (ending_answers s g build)) (earlier ++ build ∷ []) list more ordered.2 still rest in (
       pass_one s g earlier build list more ordered broke.0 behind,
       subst (λ (h : History). AllByRecursion (λ (each : Build). ending_answers s (said_all h more) each ≡ []) list) (sym next) tail,
     )
@@ -160,6 +162,7 @@ dropped_as s h g (build ∷ list) name as' = go (drops_test s h build) refl (λ 
         let same : build.name ≡ name = eqb-true build.name name at in
         let none : is_unfinished h name ≡ true = subst (λ (n : ℕ). is_unfinished h n ≡ true) same begun in
         inr (is_none_none (ended h name) none, refl)
+
     go : (b : Bool) → drops_test s h build ≡ b → ((next : History) → AsDropped h next name → AsDropped h (said_all next (map dropping (filter (drops_test s h) list))) name)
         → AsDropped h (said_all g (map dropping (cond b (build ∷ filter (drops_test s h) list) (filter (drops_test s h) list)))) name
     go false e rest = rest g as'

@@ -76,7 +76,7 @@ pub live_same : (page : ℕ) (h g : History) (earlier later : List Build) → ((
 live_same page h g [] later roots same = refl
 live_same page h g (build ∷ earlier) later roots same =
     let needed : is_needed g later build.name ≡ is_needed h later build.name =
-        needed_same h g later build.name (λ name member. same name (later_live page h name (build ∷ earlier) later member)) in
+    needed_same h g later build.name (λ name member. same name (later_live page h name (build ∷ earlier) later member)) in
     let test : (is_rooted page g build.name || is_needed g later build.name) ≡ (is_rooted page h build.name || is_needed h later build.name) = λ i. roots build.name i || needed i in
     ap (λ (b : Bool). live_from page g earlier (cond b (build ∷ later) later)) test
     ∙ live_same page h g earlier (cond (is_rooted page h build.name || is_needed h later build.name) (build ∷ later) later) roots same
@@ -109,6 +109,7 @@ dropped_live s h g (build ∷ list) name lives = go (drops_test s h build) refl 
             let dead : not (is_live s.limits.page h build.name) ≡ true = (and_parts (is_unfinished h build.name) (not (is_live s.limits.page h build.name)) drops).1 in
             let alive : is_live s.limits.page h build.name ≡ true = subst (λ (n : ℕ). is_live s.limits.page h n ≡ true) (sym same) lives in
             absurd (false_true (subst (λ (b : Bool). not b ≡ true) alive dead))
+
     go : (b : Bool) → drops_test s h build ≡ b → ((next : History) → ended (said_all next (map dropping (filter (drops_test s h) list))) name ≡ ended next name)
         → ended (said_all g (map dropping (cond b (build ∷ filter (drops_test s h) list) (filter (drops_test s h) list)))) name ≡ ended g name
     go false e rest = rest g
@@ -122,19 +123,19 @@ dropped_ended s h g (build ∷ list) = go (drops_test s h build) refl (λ next. 
     over : (b : Bool) → (b ≡ true → false ≡ true) → b ≡ false
     over true f = absurd (false_true (f refl))
     over false f = refl
+
     go : (b : Bool) → drops_test s h build ≡ b
         → ((next : History) → AllByRecursion (λ (each : Build). drops_test s h each ≡ true → is_unfinished (said_all next (map dropping (filter (drops_test s h) list))) each.name ≡ false) list)
         → (b ≡ true → is_unfinished (said_all g (map dropping (cond b (build ∷ filter (drops_test s h) list) (filter (drops_test s h) list)))) build.name ≡ false)
-            × AllByRecursion (λ (each : Build). drops_test s h each ≡ true → is_unfinished (said_all g (map dropping (cond b (build ∷ filter (drops_test s h) list) (filter (drops_test s h) list)))) each.name ≡ false) list
+        × AllByRecursion (λ (each : Build). drops_test s h each ≡ true → is_unfinished (said_all g (map dropping (cond b (build ∷ filter (drops_test s h) list) (filter (drops_test s h) list)))) each.name ≡ false) list
     go false e rest = ((λ f. absurd (false_true f)), rest g)
-    go true e rest =
-        (
-          (λ f.
-              let first : is_unfinished (said g (dropping build)) build.name ≡ false = rw (eq-eqb build.name build.name refl) refl in
-              over (is_unfinished (said_all (said g (dropping build)) (map dropping (filter (drops_test s h) list))) build.name)
-              (λ still. sym first ∙ unfinished_all (said g (dropping build)) (map dropping (filter (drops_test s h) list)) build.name still)),
-          rest (said g (dropping build)),
-        )
+    go true e rest = (
+      (λ f.
+          let first : is_unfinished (said g (dropping build)) build.name ≡ false = rw (eq-eqb build.name build.name refl) refl in
+          over (is_unfinished (said_all (said g (dropping build)) (map dropping (filter (drops_test s h) list))) build.name)
+          (λ still. sym first ∙ unfinished_all (said g (dropping build)) (map dropping (filter (drops_test s h) list)) build.name still)),
+      rest (said g (dropping build)),
+    )
 
 pub builds_all : (page : ℕ) (h : History) (list : List Answer) → builds page (said_all h list) ≡ builds page h
 builds_all page h list = kept_by_all (builds page) (λ g answer. refl) h list
@@ -144,11 +145,11 @@ drops_done s h =
     let after = said_all h (drops s h) in
     let blobs : builds s.limits.page (said_all h (drops s h)) ≡ builds s.limits.page h = builds_all s.limits.page h (drops s h) in
     let lives : live s.limits.page (said_all h (drops s h)) ≡ live s.limits.page h =
-        live_alike s.limits.page h (said_all h (drops s h)) blobs (rooted_said s.limits.page h (drops s h))
-        (λ name alive. ap (λ (o : Option Status). is_none o) (dropped_live s h h (reverse (builds s.limits.page h)) name alive)) in
+    live_alike s.limits.page h (said_all h (drops s h)) blobs (rooted_said s.limits.page h (drops s h))
+    (λ name alive. ap (λ (o : Option Status). is_none o) (dropped_live s h h (reverse (builds s.limits.page h)) name alive)) in
     let none : filter (drops_test s (said_all h (drops s h))) (reverse (builds s.limits.page h)) ≡ [] =
-        filter_none (drops_test s (said_all h (drops s h))) (reverse (builds s.limits.page h))
-        (each (reverse (builds s.limits.page h)) (λ name. ap (λ (list : List Build). named name list) lives) (dropped_ended s h h (reverse (builds s.limits.page h)))) in
+    filter_none (drops_test s (said_all h (drops s h))) (reverse (builds s.limits.page h))
+    (each (reverse (builds s.limits.page h)) (λ name. ap (λ (list : List Build). named name list) lives) (dropped_ended s h h (reverse (builds s.limits.page h)))) in
     ap (λ (list : List Build). map dropping (filter (drops_test s (said_all h (drops s h))) (reverse list))) blobs ∙ ap (λ (list : List Build). map dropping list) none
   where
     one : (build : Build) → is_live s.limits.page (said_all h (drops s h)) build.name ≡ is_live s.limits.page h build.name
@@ -162,6 +163,7 @@ drops_done s h =
             let before : is_unfinished h build.name ≡ true = unfinished_all h (drops s h) build.name f in
             let drops : drops_test s h build ≡ true = rw (before, e) refl in
             absurd (false_true (sym (gone drops) ∙ f))
+
     each : (list : List Build) → ((name : ℕ) → is_live s.limits.page (said_all h (drops s h)) name ≡ is_live s.limits.page h name)
         → AllByRecursion (λ (build : Build). drops_test s h build ≡ true → is_unfinished (said_all h (drops s h)) build.name ≡ false) list
         → AllByRecursion (λ (build : Build). drops_test s (said_all h (drops s h)) build ≡ false) list

@@ -50,11 +50,10 @@ none_owed (step ∷ steps) h all = (λ i. all.0 i ++ settle_by steps (said_all h
 
 self_named : (list : List Build) → AllByRecursion (λ (build : Build). named build.name list ≡ true) list
 self_named [] = tt
-self_named (x ∷ list) =
-    (
-      or_first (x.name == x.name) (named x.name list) (eq-eqb x.name x.name refl),
-      for_each (λ (build : Build). named build.name list ≡ true) (λ (build : Build). named build.name (x ∷ list) ≡ true) list (λ build member. or_second (x.name == build.name) (named build.name list) member) (self_named list),
-    )
+self_named (x ∷ list) = (
+  or_first (x.name == x.name) (named x.name list) (eq-eqb x.name x.name refl),
+  for_each (λ (build : Build). named build.name list ≡ true) (λ (build : Build). named build.name (x ∷ list) ≡ true) list (λ build member. or_second (x.name == build.name) (named build.name list) member) (self_named list),
+)
 
 pub for_two : {X : Type 0} (P Q R : X → Type 0) (xs : List X) → ((x : X) → P x → Q x → R x) → AllByRecursion P xs → AllByRecursion Q xs → AllByRecursion R xs
 for_two P Q R [] f p q = tt
@@ -62,23 +61,23 @@ for_two P Q R (x ∷ xs) f p q = (f x p.0 q.0, for_two P Q R xs f p.1 q.1)
 
 passes_named : (p : Build → Bool) (list : List Build) → Distinct list → AllByRecursion (λ (build : Build). named build.name (filter p list) ≡ true → p build ≡ true) list
 passes_named p [] d = tt
-passes_named p (x ∷ list) d =
-    (
-      head (p x),
-      for_two (λ (build : Build). named build.name (filter p list) ≡ true → p build ≡ true) (λ (build : Build). named build.name list ≡ true)
+passes_named p (x ∷ list) d = (
+  head (p x),
+  for_two (λ (build : Build). named build.name (filter p list) ≡ true → p build ≡ true) (λ (build : Build). named build.name list ≡ true)
       (λ (build : Build). named build.name (cond (p x) (x ∷ filter p list) (filter p list)) ≡ true → p build ≡ true) list (λ build rest member. tail build rest member (p x)) (passes_named p list d.1) (self_named list),
-    )
+)
   where
     head : (b : Bool) → named x.name (cond b (x ∷ filter p list) (filter p list)) ≡ true → b ≡ true
     head true e = refl
     head false e = absurd (false_true (sym (named_filter x.name p list d.0) ∙ e))
+
     tail : (build : Build) → (named build.name (filter p list) ≡ true → p build ≡ true) → named build.name list ≡ true → (b : Bool) → named build.name (cond b (x ∷ filter p list) (filter p list)) ≡ true → p build ≡ true
     tail build rest member false e = rest e
     tail build rest member true e =
         ⊎_elim
         (λ (here : (x.name == build.name) ≡ true).
-            let same : x.name ≡ build.name = eqb-true x.name build.name here in
-            absurd (false_true (sym d.0 ∙ subst (λ (n : ℕ). named n list ≡ true) (sym same) member)))
+        let same : x.name ≡ build.name = eqb-true x.name build.name here in
+        absurd (false_true (sym d.0 ∙ subst (λ (n : ℕ). named n list ≡ true) (sym same) member)))
         (λ (more : named build.name (filter p list) ≡ true). rest more)
         (or_cases (x.name == build.name) (named build.name (filter p list)) e)
 
@@ -174,9 +173,9 @@ module _ (s : Session) (unremoved : List ℕ) (h : History) (kept : Kept s h) wh
   waited : (build : Build) → (named build.name (waits s.limits.page removed) ≡ true → is_waiting removed build ≡ true) → was_granted ended_at build.name ≡ true → was_granted passed build.name ≡ false → is_waiting passed build ≡ true
   waited build among now not_yet =
       let at_grants : was_granted granted build.name ≡ true =
-          sym (granted_still granted (page_jobs s granted ++ compactions s jobbed) build.name jobs_still) ∙ ap (λ (g : History). was_granted g build.name) to_jobs ∙ now in
+      sym (granted_still granted (page_jobs s granted ++ compactions s jobbed) build.name jobs_still) ∙ ap (λ (g : History). was_granted g build.name) to_jobs ∙ now in
       let before : was_granted removed build.name ≡ false =
-          removals_still s unremoved swept build.name ∙ drops_grant passed (filter (drops_test s passed) (reverse (builds s.limits.page passed))) build.name ∙ not_yet in
+      removals_still s unremoved swept build.name ∙ drops_grant passed (filter (drops_test s passed) (reverse (builds s.limits.page passed))) build.name ∙ not_yet in
       ⊎_elim
       (λ (was : was_granted removed build.name ≡ true). absurd (false_true (sym before ∙ was)))
       (λ (member : named build.name (waits s.limits.page removed) ≡ true). waiting_all passed (drops s passed) build (waiting_all swept (removals s unremoved swept) build (among member)))
@@ -186,18 +185,19 @@ module _ (s : Session) (unremoved : List ℕ) (h : History) (kept : Kept s h) wh
   room_later =
       let blobs : builds s.limits.page passed ≡ builds s.limits.page dropped = builds_all s.limits.page dropped (endings s dropped) in
       let others : builds s.limits.page removed ≡ builds s.limits.page dropped =
-          builds_all s.limits.page swept (removals s unremoved swept) ∙ builds_all s.limits.page passed (drops s passed) ∙ builds_all s.limits.page dropped (endings s dropped) in
+      builds_all s.limits.page swept (removals s unremoved swept) ∙ builds_all s.limits.page passed (drops s passed) ∙ builds_all s.limits.page dropped (endings s dropped) in
       let lacking : AllByRecursion (λ (build : Build). is_waiting passed build ≡ true → has_all s.limits passed build ≡ false) (builds s.limits.page dropped) =
-          subst (λ (xs : List Build). AllByRecursion (λ (build : Build). is_waiting passed build ≡ true → has_all s.limits passed build ≡ false) xs) blobs kept_passed.lacking in
+      subst (λ (xs : List Build). AllByRecursion (λ (build : Build). is_waiting passed build ≡ true → has_all s.limits passed build ≡ false) xs) blobs kept_passed.lacking in
       let among : AllByRecursion (λ (build : Build). named build.name (waits s.limits.page removed) ≡ true → is_waiting removed build ≡ true) (builds s.limits.page dropped) =
-          subst (λ (xs : List Build). AllByRecursion (λ (build : Build). named build.name (waits s.limits.page removed) ≡ true → is_waiting removed build ≡ true) xs) others
-          (passes_named (is_waiting removed) (builds s.limits.page removed) (ordered_distinct [] (builds s.limits.page removed) kept_removed.ordered)) in
+      subst (λ (xs : List Build). AllByRecursion (λ (build : Build). named build.name (waits s.limits.page removed) ≡ true → is_waiting removed build ≡ true) xs) others
+      (passes_named (is_waiting removed) (builds s.limits.page removed) (ordered_distinct [] (builds s.limits.page removed) kept_removed.ordered)) in
       for_two (λ (build : Build). is_waiting passed build ≡ true → has_all s.limits passed build ≡ false) (λ (build : Build). named build.name (waits s.limits.page removed) ≡ true → is_waiting removed build ≡ true)
       (λ (build : Build). is_unfinished passed build.name ≡ true → is_granted (said_all passed (drops s passed ++ late)) build ≡ true → is_granted passed build ≡ false → has_all s.limits passed build ≡ false)
       (builds s.limits.page dropped) (λ build lacks member begun now not_yet. lacks (waited build member (later build now not_yet) (or_parts (option_map_or grants_at_once build.plan false) (was_granted passed build.name) not_yet).1)) lacking among
     where
       whole : said_all passed (drops s passed ++ late) ≡ ended_at
       whole = said_append passed (drops s passed) late ∙ to_end
+
       later : (build : Build) → is_granted (said_all passed (drops s passed ++ late)) build ≡ true → is_granted passed build ≡ false → was_granted ended_at build.name ≡ true
       later build now not_yet =
           let once : option_map_or grants_at_once build.plan false ≡ false = (or_parts (option_map_or grants_at_once build.plan false) (was_granted passed build.name) not_yet).0 in
@@ -218,18 +218,18 @@ module _ (s : Session) (unremoved : List ℕ) (h : History) (kept : Kept s h) wh
   no_endings =
       let kept_dropped : Kept s dropped = kept_all s h (drops s h) kept in
       let none : endings_of s (said_all passed (drops s passed ++ late)) (builds s.limits.page dropped) ≡ [] =
-          pass_empty s (said_all passed (drops s passed ++ late)) (builds s.limits.page dropped)
-          (pass_over s dropped [] (builds s.limits.page dropped) (drops s passed ++ late) kept_dropped.ordered kept_dropped.broke behind) in
+      pass_empty s (said_all passed (drops s passed ++ late)) (builds s.limits.page dropped)
+      (pass_over s dropped [] (builds s.limits.page dropped) (drops s passed ++ late) kept_dropped.ordered kept_dropped.broke behind) in
       let whole : said_all passed (drops s passed ++ late) ≡ ended_at = said_append passed (drops s passed) late ∙ to_end in
       let there : endings_of s ended_at (builds s.limits.page dropped) ≡ [] = subst (λ (g : History). endings_of s g (builds s.limits.page dropped) ≡ []) whole none in
       let blobs : builds s.limits.page ended_at ≡ builds s.limits.page dropped =
-          ap (builds s.limits.page) (sym whole) ∙ builds_all s.limits.page passed (drops s passed ++ late) ∙ builds_all s.limits.page dropped (endings s dropped) in
+      ap (builds s.limits.page) (sym whole) ∙ builds_all s.limits.page passed (drops s passed ++ late) ∙ builds_all s.limits.page dropped (endings s dropped) in
       ap (λ (xs : List Build). endings_of s ended_at xs) blobs ∙ there
 
-  settled_once : IsSettled s (said_all h (settle s unremoved h))
+  pub settled_once : IsSettled s (said_all h (settle s unremoved h))
   settled_once =
       let steps : AllByRecursion (λ (step : History → List Answer). step ended_at ≡ []) (drops s ∷ endings s ∷ drops s ∷ removals s [] ∷ grants s ∷ page_jobs s ∷ compactions s ∷ []) =
-          (no_drops, (no_endings, (no_drops, (no_removals, (no_grants, ((jobs_done s granted).0, ((jobs_done s granted).1, tt))))))) in
+      (no_drops, (no_endings, (no_drops, (no_removals, (no_grants, ((jobs_done s granted).0, ((jobs_done s granted).1, tt))))))) in
       let last : said_all h (settle s unremoved h) ≡ ended_at = settle_run (drops s ∷ endings s ∷ drops s ∷ removals s unremoved ∷ grants s ∷ page_jobs s ∷ compactions s ∷ []) h in
       subst (λ (g : History). IsSettled s g) (sym last)
       (none_owed (drops s ∷ endings s ∷ drops s ∷ removals s [] ∷ grants s ∷ page_jobs s ∷ compactions s ∷ []) ended_at steps)

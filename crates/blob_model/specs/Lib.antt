@@ -53,3 +53,4 @@ pub mod WrongCompaction
 pub mod Laws
 pub mod LegalLaws
 pub mod BuildLaws
+pub mod SettledLaws

@@ -1,5 +1,6 @@
 ghost use Rattle.blob_model.specs.Laws.{ChangeLaws};
 ghost use Rattle.blob_model.specs.BuildLaws.{CellsAreSizes, LiveIsLeast, RootedLive, RenderersAreFew};
+ghost use Rattle.blob_model.specs.SettledLaws.{SettledAfterEach};
 ghost use Rattle.blob_model.specs.LegalLaws.{FrontsAreLegal, MoreIsLegal, OneTranscript, ReachedAreGranted, ThinStaysForRoom, DiskIsAtMostTwice};
 
 /// After which lines and answers alone each notion changes.
@@ -56,4 +57,9 @@ pub fn rooted_live()
 /// The renderer after 1,024 is refused.
 pub fn renderers_are_few()
     ensures { RenderersAreFew }
+{}
+
+/// After each group of a legal transcript nothing is owed.
+pub fn settled_after_each()
+    ensures { SettledAfterEach }
 {}
