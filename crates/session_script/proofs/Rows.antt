@@ -1,7 +1,7 @@
 -- From the faults of single fields to the fault of a row.
 use Rattle.std.proofs.Common.{◌≡◌, ℕ, suc, ◌⊎◌, List, [], ◌∷◌, ◌++◌, length, Result, Ok, Err, inl, inr, refl, sym, ap, ◌∙◌, subst, arith}
 use Rattle.std.proofs.lemmas.List.{append-nil, length-append}
-use Rattle.session_script.specs.Kind.{Kind, bytes, content_type, Spells, IsFaultOf, IsFirstFault, IsRowFault, AllSpell}
+use Rattle.session_script.specs.Kind.{Kind, bytes, content_type, some_bytes, Spells, IsFaultOf, IsFirstFault, IsRowFault, AllSpell}
 use Rattle.session_script.specs.Reading.{IsReading, IsTaken, AreTaken}
 use Rattle.session_script.specs.declared.line_fault.LineFault.{LineFault}
 use Rattle.session_script.specs.declared.line_fault.LineFault.TheVariants.{Memory}
@@ -50,3 +50,7 @@ row_read kinds Fit spell count old new (Err fault) counted spelled exact (inr wr
 pub type_unread : (fault : LineFault) (text : List ℕ) → (fault ≡ Memory) ⊎ IsFaultOf bytes fault text → (fault ≡ Memory) ⊎ IsFaultOf content_type fault text
 type_unread fault text (inl memory) = inl memory
 type_unread fault text (inr wrong) = inr (λ (s : Spells content_type text). wrong.0 (s.0, s.1, s.3), inr (wrong.0, wrong.1))
+
+pub some_unread : (fault : LineFault) (text : List ℕ) → (fault ≡ Memory) ⊎ IsFaultOf bytes fault text → (fault ≡ Memory) ⊎ IsFaultOf some_bytes fault text
+some_unread fault text (inl memory) = inl memory
+some_unread fault text (inr wrong) = inr (λ (s : Spells some_bytes text). wrong.0 (s.0, s.1, s.3), wrong.1)

@@ -1,6 +1,6 @@
 -- The bytes of fields are visible: none is a space or a line feed, and none in a part's fields is a colon.
 use Rattle.std.proofs.Common.{◌≡◌, ℕ, ◌<◌, ◌≤◌, ◌^◌, ◌⊎◌, true, false, map, List, [], ◌∷◌, ◌++◌, All, eqb, length, decimal, refl, sym, ap, ◌∙◌, lit≤, subst, arith}
-use Rattle.std.specs.Prelude.{Bool, nat_le, ◌==◌, ◌&&◌, ◌||◌}
+use Rattle.std.specs.Prelude.{Bool, codes, nat_le, ◌==◌, ◌&&◌, ◌||◌}
 use Rattle.std.specs.List.{AllByRecursion, list_all, list_any}
 use Rattle.std.proofs.lemmas.Bool.{and_parts, ne_eqb, or_from}
 use Rattle.std.proofs.lemmas.Bool.Decides.{nat_tests}
@@ -9,11 +9,14 @@ use Rattle.std.proofs.lemmas.List.Folds.{list_any-append, list_any_none}
 use Rattle.blob_words.specs.FileName.{is_file_name, is_file_name_byte}
 use Rattle.blob_words.specs.Origin.{is_origin, is_origin_byte}
 use Rattle.blob_words.specs.UrlText.{is_url_text, is_visible_byte}
+use Rattle.blob_words.specs.declared.status.Status.{Status}
+use Rattle.blob_words.specs.declared.status.Status.TheVariants as statuses
 use Rattle.session_script.specs.Fault.{IsPart, kinds_of, kinds_of_letter}
 use Rattle.session_script.specs.Fields.{fields, joined}
-use Rattle.session_script.specs.Kind.{Kind, Spells, AllSpell, number_32, number_64, positive, len, place, name, origin, file_name, url_text, bytes, content_type}
+use Rattle.session_script.specs.Kind.{Kind, Spells, AllSpell, number_32, number_64, positive, len, place, name, origin, file_name, url_text, bytes, content_type, some_bytes, broken, ending, status, switch}
 use Rattle.session_script.specs.Line.{letter_of, part_fields, part_text, PartHasText}
 use Rattle.session_script.specs.Reading.{split}
+use Rattle.session_script.specs.Status.{status_word, switch_word}
 use Rattle.session_script.specs.Word.{word_text, letter_text}
 use Rattle.session_script.specs.declared.event.Part.{Part}
 use Rattle.session_script.specs.declared.event.Part.TheVariants as parts
@@ -58,6 +61,27 @@ origin_byte c allowed = grind (arith, nat_tests)
 url_byte : (c : ℕ) → is_visible_byte c ≡ true → IsVisible c
 url_byte c allowed = grind (arith, nat_tests)
 
+-- a word that computes is visible
+pub literal_visible : (text : List ℕ) → list_all is_visible_byte text ≡ true → AreVisible text
+literal_visible text all = tested_all IsVisible is_visible_byte url_byte text all
+
+status_visible : (s : Status) → AreVisible (status_word s)
+status_visible statuses.InvalidArguments = literal_visible (codes "invalid-construction-arguments") refl
+status_visible statuses.OutOfMemory = literal_visible (codes "out-of-memory") refl
+status_visible statuses.FileWriteFailed = literal_visible (codes "file-write-failed") refl
+status_visible statuses.SourceDied = literal_visible (codes "source-died-in-transit") refl
+status_visible statuses.Dereferenced = literal_visible (codes "dropped") refl
+status_visible statuses.ReferencedBlobBroken = literal_visible (codes "referenced-blob-broken") refl
+status_visible statuses.ReferencedFileUnavailable = literal_visible (codes "referenced-file-unavailable") refl
+status_visible statuses.Done = literal_visible (codes "done") refl
+status_visible statuses.PendingQuota = literal_visible (codes "pending-quota") refl
+status_visible statuses.PendingTransport = literal_visible (codes "pending-transport") refl
+status_visible statuses.PendingReferencedBlobs = literal_visible (codes "pending-referenced-blobs") refl
+
+switch_visible : (on : Bool) → AreVisible (switch_word on)
+switch_visible true = literal_visible (codes "on") refl
+switch_visible false = literal_visible (codes "off") refl
+
 -- the texts of all kinds are visible
 pub spells_visible : (kind : Kind) (text : List ℕ) → Spells kind text → AreVisible text
 spells_visible number_32 text s = subst AreVisible (sym s.2) (decimal_all IsVisible digits_visible s.0 (omega arith))
@@ -70,6 +94,11 @@ spells_visible origin text s = tested_all IsVisible is_origin_byte origin_byte t
 spells_visible file_name text s = tested_all IsVisible is_file_name_byte file_name_byte text (and_parts _ (list_all is_file_name_byte text) s).1
 spells_visible url_text text s = tested_all IsVisible is_visible_byte url_byte text (and_parts _ (list_all is_visible_byte text) s).1
 spells_visible bytes text s = subst AreVisible (sym s.2) (hex_all IsVisible digits_visible s.0 s.1)
+spells_visible some_bytes text s = subst AreVisible (sym s.3) (hex_all IsVisible digits_visible s.0 s.1)
+spells_visible broken text s = subst AreVisible (sym s.2) (status_visible s.0)
+spells_visible ending text s = subst AreVisible (sym s.2) (status_visible s.0)
+spells_visible status text s = subst AreVisible (sym s.2) (status_visible s.0)
+spells_visible switch text s = subst AreVisible (sym s.1) (switch_visible s.0)
 spells_visible content_type text s = subst AreVisible (sym s.3) (hex_all IsVisible digits_visible s.0 s.1)
 
 pub all_visible : (kinds : List Kind) (texts : List (List ℕ)) → AllSpell kinds texts → AllByRecursion AreVisible texts

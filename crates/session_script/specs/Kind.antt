@@ -1,16 +1,18 @@
 -- What may stand in a field, and what is wrong with a text that may not. Own format.
-use Rattle.std.specs.Prelude.{ℕ, ℤ, ◌≡◌, ◌⊎◌, ◌^◌, ◌<◌, ◌≤◌, true, List, [], ◌∷◌, Option, IfSome, FitsSigned, length, decimal}
+use Rattle.std.specs.Prelude.{ℕ, ℤ, Bool, ◌≡◌, ◌⊎◌, ◌^◌, ◌<◌, ◌≤◌, true, List, [], ◌∷◌, Option, IfSome, FitsSigned, length, decimal}
 use Rattle.std.specs.Int.{w64}
 use Rattle.hex.specs.Hex.{IsBytes}
 use Rattle.blob_words.specs.BlobName.{name_text}
 use Rattle.blob_words.specs.FileName.{is_file_name}
 use Rattle.blob_words.specs.Origin.{is_origin}
 use Rattle.blob_words.specs.UrlText.{is_url_text}
+use Rattle.blob_words.specs.declared.status.Status.{Status}
 use Rattle.session_script.specs.Fields.{hex_text, len_text, place_text}
+use Rattle.session_script.specs.Status.{status_word, is_told, is_broken, is_end, switch_word}
 use Rattle.session_script.specs.declared.line_fault.LineFault.{LineFault}
 use Rattle.session_script.specs.declared.line_fault.LineFault.TheVariants as faults
 
--- what a field holds: a number of 32 bits, one of 64 bits, one of 64 bits that isn't 0, a length, a place in a blob, a blob's name, an origin, a file's name, a URL's text, bytes, or a content type
+-- what a field holds: a number of 32 bits, one of 64 bits, one of 64 bits that isn't 0, a length, a place in a blob, a blob's name, an origin, a file's name, a URL's text, bytes, or a content type; and in answers alone: bytes that are some, the word of a broken status, of one with which a reader ends, of any status, or a switch
 pub data Kind : Type 0 where
   number_32 : Kind
   number_64 : Kind
@@ -23,6 +25,11 @@ pub data Kind : Type 0 where
   url_text : Kind
   bytes : Kind
   content_type : Kind
+  some_bytes : Kind
+  broken : Kind
+  ending : Kind
+  status : Kind
+  switch : Kind
 
 -- the text spells a value of the kind
 abbrev pub Spells : Kind → List ℕ → Type 0
@@ -36,6 +43,11 @@ Spells origin text = is_origin text ≡ true
 Spells file_name text = is_file_name text ≡ true
 Spells url_text text = is_url_text text ≡ true
 Spells bytes text = (value : List ℕ) × IsBytes value × (text ≡ hex_text value)
+Spells some_bytes text = (value : List ℕ) × IsBytes value × (0 < length value) × (text ≡ hex_text value)
+Spells broken text = (value : Status) × (is_broken value ≡ true) × (text ≡ status_word value)
+Spells ending text = (value : Status) × (is_end value ≡ true) × (text ≡ status_word value)
+Spells status text = (value : Status) × (is_told value ≡ true) × (text ≡ status_word value)
+Spells switch text = (value : Bool) × (text ≡ switch_word value)
 Spells content_type text = (value : List ℕ) × IsBytes value × (length value ≤ 255) × (text ≡ hex_text value)
 
 -- the class of a text that spells no value of the kind
@@ -50,6 +62,11 @@ IsClass origin fault text = fault ≡ faults.Name
 IsClass file_name fault text = fault ≡ faults.Name
 IsClass url_text fault text = fault ≡ faults.Name
 IsClass bytes fault text = fault ≡ faults.Hex
+IsClass some_bytes fault text = fault ≡ faults.Hex
+IsClass broken fault text = fault ≡ faults.Word
+IsClass ending fault text = fault ≡ faults.Word
+IsClass status fault text = fault ≡ faults.Word
+IsClass switch fault text = fault ≡ faults.Word
 IsClass content_type fault text = (Spells bytes text × (fault ≡ faults.Type)) ⊎ ((Spells bytes text → ⊥) × (fault ≡ faults.Hex))
 
 -- the text spells no value of the kind, and this is its class

@@ -2,14 +2,16 @@
 mod bytes;
 mod name;
 mod number;
+mod status;
 
 ghost use Rattle.session_script.specs.Kind.{IsFaultOf};
 ghost use Rattle.session_script.specs.Output.{output, IsPut};
 ghost use Rattle.session_script.specs.Reading.{IsReading};
 
 use crate::buffer::Buffer;
-pub use crate::field::bytes::ContentType;
+pub use crate::field::bytes::{ContentType, SomeOctets};
 pub use crate::field::number::Positive;
+pub use crate::field::status::{Broken, Ending, Told};
 use crate::line_fault::LineFault;
 use blob_source::Sink;
 use blob_words::Failed;

@@ -6,6 +6,7 @@ pub mod event;
 pub mod field;
 pub mod fields;
 pub mod growing;
+pub mod laws;
 pub mod letter;
 pub mod line;
 pub mod line_fault;

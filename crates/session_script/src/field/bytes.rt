@@ -4,7 +4,7 @@ ghost use Rattle.std.specs.Prelude.{◌≡◌, ◌&&◌, ◌||◌, ◌*◌, ◌�
 ghost use Rattle.std.specs.List.{list_all};
 ghost use Rattle.hex.specs.Hex.{IsBytes, encode_lower};
 ghost use Rattle.session_script.specs.Fields.{hex_text};
-ghost use Rattle.session_script.specs.Kind.{bytes, content_type, IsFaultOf};
+ghost use Rattle.session_script.specs.Kind.{bytes, content_type, some_bytes, IsFaultOf};
 ghost use Rattle.session_script.specs.Line.{IsContentType};
 ghost use Rattle.session_script.specs.Output.{output, IsPut};
 ghost use Rattle.session_script.specs.Reading.{is_lower_digit, IsReading};
@@ -25,6 +25,10 @@ const MAX_CONTENT_TYPE: usize = 255;
 /// A content type: at most 255 bytes.
 #[derive(Debug, Drop)]
 pub struct ContentType(pub Octets);
+
+/// Bytes, at least one.
+#[derive(Debug, Drop)]
+pub struct SomeOctets(pub Octets);
 
 fn is_lower_digit(byte: u8) -> bool
     ensures { result ≡ is_lower_digit byte }
@@ -136,6 +140,34 @@ impl Field for ContentType {
                     return Err(LineFault::Type);
                 }
                 Ok(ContentType(bytes))
+            }
+            Err(fault) => Err(fault),
+        }
+    }
+}
+
+impl Spell for SomeOctets {
+    ghost spell = { λ value. hex_text value.0 };
+
+    fn put<K: Sink>(&self, buffer: &mut Buffer, out: &mut K) -> Result<(), Failed> {
+        put_hex(buffer, out, self.0.as_slice())
+    }
+}
+
+impl Field for SomeOctets {
+    ghost kind = { some_bytes };
+
+    ghost Fits = { λ value. IsBytes value.0 × (0 < length value.0) };
+
+    ghost spelled = { λ value fits. (value.0, fits.0, fits.1, refl) };
+
+    fn read(alloc: Global, text: &[u8]) -> Result<Self, LineFault> {
+        match read_hex(alloc, text) {
+            Ok(bytes) => {
+                if bytes.len() == 0 {
+                    return Err(LineFault::Hex);
+                }
+                Ok(SomeOctets(bytes))
             }
             Err(fault) => Err(fault),
         }
