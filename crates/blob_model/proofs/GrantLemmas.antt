@@ -80,7 +80,7 @@ grants_done s h (build ∷ more) distinct e =
     go false at rest = ap (λ (xs : List Build). grants_of s h xs) e ∙ (λ i. if at i then answers.Granted build.name ∷ grants_of s (said h (answers.Granted build.name)) more else [])
 
 -- nothing is granted later either, while nothing but jobs came
-head_waits : (s : Session) (h g : History) (list : List Build) → memory s.limits.page g ≡ memory s.limits.page h → grants_of s h list ≡ [] → grants_of s g list ≡ []
+pub head_waits : (s : Session) (h g : History) (list : List Build) → memory s.limits.page g ≡ memory s.limits.page h → grants_of s h list ≡ [] → grants_of s g list ≡ []
 head_waits s h g [] same e = refl
 head_waits s h g (build ∷ more) same e = go (nat_le (memory s.limits.page h + own_bytes build.parts) s.limits.memory) refl e
   where

@@ -24,3 +24,4 @@ pub mod DueLemmas
 pub mod GrantLemmas
 pub mod SettledLemmas
 pub mod AfterLemmas
+pub mod RefusedLemmas

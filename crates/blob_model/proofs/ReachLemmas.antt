@@ -33,15 +33,15 @@ reached_granted page h = kept_first (is_granted_piece h (builds page h)) (owns_s
 
 -- ---- settled histories
 
-nil_parts : {X : Type 0} (xs ys : List X) → xs ++ ys ≡ [] → (xs ≡ []) × (ys ≡ [])
+pub nil_parts : {X : Type 0} (xs ys : List X) → xs ++ ys ≡ [] → (xs ≡ []) × (ys ≡ [])
 nil_parts [] ys e = (refl, e)
 nil_parts (x ∷ xs) ys e = cc
 
 -- where nothing is owed each list is empty at once
-abbrev AllEmpty : List (History → List Answer) → History → Type 0
+abbrev pub AllEmpty : List (History → List Answer) → History → Type 0
 AllEmpty steps h = AllByRecursion (λ (step : History → List Answer). step h ≡ []) steps
 
-all_empty : (steps : List (History → List Answer)) (h : History) → settle_by steps h ≡ [] → AllEmpty steps h
+pub all_empty : (steps : List (History → List Answer)) (h : History) → settle_by steps h ≡ [] → AllEmpty steps h
 all_empty [] h e = tt
 all_empty (step ∷ steps) h e =
     let parts = nil_parts (step h) (settle_by steps (said_all h (step h))) e in

@@ -42,7 +42,7 @@ settle_run : (steps : List (History → List Answer)) (h : History) → said_all
 settle_run [] h = refl
 settle_run (step ∷ steps) h = said_append h (step h) (settle_by steps (said_all h (step h))) ∙ settle_run steps (said_all h (step h))
 
-none_owed : (steps : List (History → List Answer)) (h : History) → AllByRecursion (λ (step : History → List Answer). step h ≡ []) steps → settle_by steps h ≡ []
+pub none_owed : (steps : List (History → List Answer)) (h : History) → AllByRecursion (λ (step : History → List Answer). step h ≡ []) steps → settle_by steps h ≡ []
 none_owed [] h all = refl
 none_owed (step ∷ steps) h all = (λ i. all.0 i ++ settle_by steps (said_all h (all.0 i))) ∙ none_owed steps h all.1
 
