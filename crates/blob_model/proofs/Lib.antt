@@ -25,3 +25,4 @@ pub mod GrantLemmas
 pub mod SettledLemmas
 pub mod AfterLemmas
 pub mod RefusedLemmas
+pub mod RootLemmas
