@@ -125,3 +125,74 @@ named_before s h (events.Revoke renderer text) answers.Revoked name holders acce
 named_before s h (events.Die renderer) answer name holders accepted e = inl (any_filtered (λ (entry : Entry). entry.blob == name) (λ (entry : Entry). not (entry.owner == renderer.0)) (entries h) e)
 named_before s h events.Finish answer name holders accepted e = absurd (false_true e)
 named_before s h event answer name holders accepted e = inl e
+
+read_advanced : (number by name : ℕ) (list : List OpenReader) → list_any (λ (reader : OpenReader). reader.blob == name) (map (advanced number by) list) ≡ true → list_any (λ (reader : OpenReader). reader.blob == name) list ≡ true
+read_advanced number by name [] e = e
+read_advanced number by name (reader ∷ list) e =
+    ⊎_elim (λ (here : ((advanced number by reader).blob == name) ≡ true). or_first (reader.blob == name) (list_any (λ (each : OpenReader). each.blob == name) list) (same (reader.number == number) here))
+    (λ (more : list_any (λ (each : OpenReader). each.blob == name) (map (advanced number by) list) ≡ true). or_second (reader.blob == name) (list_any (λ (each : OpenReader). each.blob == name) list) (read_advanced number by name list more))
+    (or_cases ((advanced number by reader).blob == name) (list_any (λ (each : OpenReader). each.blob == name) (map (advanced number by) list)) e)
+  where
+    same : (b : Bool) → ((if b then record reader { place = reader.place + by } else reader).blob == name) ≡ true → (reader.blob == name) ≡ true
+    same true f = f
+    same false f = f
+
+read_closed : (number name : ℕ) (list : List OpenReader) → list_any (λ (reader : OpenReader). reader.blob == name) (closed number list) ≡ true → list_any (λ (reader : OpenReader). reader.blob == name) list ≡ true
+read_closed number name list e = any_filtered (λ (reader : OpenReader). reader.blob == name) (λ (reader : OpenReader). not (reader.number == number)) list e
+
+-- an entry that a text resolves to is among the entries
+resolved_named : (test : Entry → Bool) (list : List Entry) (found : Entry) (name : ℕ) → find test list ≡ Some found → (found.blob == name) ≡ true → list_any (λ (entry : Entry). entry.blob == name) list ≡ true
+resolved_named test [] found name e f = cc
+resolved_named test (entry ∷ list) found name e f = go (test entry) e (λ rest. resolved_named test list found name rest f)
+  where
+    go : (b : Bool) → cond b (Some entry) (find test list) ≡ Some found → (find test list ≡ Some found → list_any (λ (each : Entry). each.blob == name) list ≡ true) → ((entry.blob == name) || list_any (λ (each : Entry). each.blob == name) list) ≡ true
+    go true g rest = let same : entry ≡ found = cc in or_first (entry.blob == name) (list_any (λ (each : Entry). each.blob == name) list) (subst (λ (x : Entry). (x.blob == name) ≡ true) (sym same) f)
+    go false g rest = or_second (entry.blob == name) (list_any (λ (each : Entry). each.blob == name) list) (rest g)
+
+read_before : (s : Session) (h : History) (event : Event) (answer : Answer) (name : ℕ) → HoldersSpawned h → refusal s h event ≡ None → is_read s.limits.page (heard h event answer) name ≡ true → is_rooted s.limits.page h name ≡ true
+read_before s h event answer name holders accepted e = go event answer accepted e
+  where
+    reads : is_read s.limits.page h name ≡ true → is_rooted s.limits.page h name ≡ true
+    reads f = or_second (is_held h name || is_named h name) (is_read s.limits.page h name) f
+    holds : is_held h name ≡ true → is_rooted s.limits.page h name ≡ true
+    holds f = or_first (is_held h name || is_named h name) (is_read s.limits.page h name) (or_first (is_held h name) (is_named h name) f)
+    names : is_named h name ≡ true → is_rooted s.limits.page h name ≡ true
+    names f = or_first (is_held h name || is_named h name) (is_read s.limits.page h name) (or_second (is_held h name) (is_named h name) f)
+    by_entry : (owner number off : ℕ) (len : Option ℕ) (text : List ℕ) (found : Option Entry) → resolved h owner text ≡ found
+        → (list_any (λ (reader : OpenReader). reader.blob == name) (readers s.limits.page h) ≡ true) ⊎ (list_any (λ (reader : OpenReader). reader.blob == name) (fetched s.limits.page h owner number found off len) ≡ true) → is_rooted s.limits.page h name ≡ true
+    by_entry owner number off len text found at (inl front) = reads front
+    by_entry owner number off len text None at (inr back) = absurd (false_true back)
+    by_entry owner number off len text (Some entry) at (inr back) =
+        ⊎_elim (λ (here : (entry.blob == name) ≡ true). names (resolved_named _ (entries h) entry name at here)) (λ (none : false ≡ true). absurd (false_true none)) (or_cases (entry.blob == name) false back)
+    go : (line : Event) (first : Answer) → refusal s h line ≡ None → is_read s.limits.page (heard h line first) name ≡ true → is_rooted s.limits.page h name ≡ true
+    go (events.Read renderer reader b off len) first ok f =
+        ⊎_elim reads (λ (here : (b == name) ≡ true). holds (held_at h renderer.0 b name holders (tests_fail s h (events.Read renderer reader b off len) ok).1.0 here))
+        (last_one (λ (each : OpenReader). each.blob == name) (readers s.limits.page h) (opened s.limits.page h renderer.0 reader.0 b off len) f)
+    go (events.Fetch renderer reader text off len) first ok f =
+        by_entry renderer.0 reader.0 off len text (resolved h renderer.0 text) refl
+        (any_parts (λ (each : OpenReader). each.blob == name) (readers s.limits.page h) (fetched s.limits.page h renderer.0 reader.0 (resolved h renderer.0 text) off len) f)
+    go (events.Step reader) (answers.Given number bytes) ok f = reads (read_advanced reader.0 (length bytes) name (readers s.limits.page h) f)
+    go (events.Step reader) (answers.Ended number status) ok f = reads (read_closed reader.0 name (readers s.limits.page h) f)
+    go (events.Step reader) (answers.FileChanged number file) ok f = reads (read_closed reader.0 name (readers s.limits.page h) f)
+    go (events.Step reader) (answers.PageFault number file) ok f = reads (read_closed reader.0 name (readers s.limits.page h) f)
+    go (events.Step reader) (answers.HandleFailed number slot) ok f = reads (read_closed reader.0 name (readers s.limits.page h) f)
+    go (events.Cancel renderer reader) first ok f = reads (read_closed reader.0 name (readers s.limits.page h) f)
+    go (events.Die renderer) first ok f = reads (any_filtered (λ (each : OpenReader). each.blob == name) (λ (each : OpenReader). not (each.owner == renderer.0)) (readers s.limits.page h) f)
+    go events.Finish first ok f = absurd (false_true f)
+    go line first ok f = reads f
+
+pub rooted_before : (s : Session) (h : History) (event : Event) (answer : Answer) (name : ℕ) → HoldersSpawned h → refusal s h event ≡ None → is_build event ≡ false
+    → is_rooted s.limits.page (heard h event answer) name ≡ true → is_rooted s.limits.page h name ≡ true
+rooted_before s h event answer name holders accepted other e =
+    ⊎_elim
+    (λ (two : (is_held (heard h event answer) name || is_named (heard h event answer) name) ≡ true).
+        ⊎_elim (λ (held : is_held (heard h event answer) name ≡ true). holds (held_before s h event answer name holders accepted other held))
+        (λ (named : is_named (heard h event answer) name ≡ true). ⊎_elim names holds (named_before s h event answer name holders accepted named))
+        (or_cases (is_held (heard h event answer) name) (is_named (heard h event answer) name) two))
+    (λ (reads : is_read s.limits.page (heard h event answer) name ≡ true). read_before s h event answer name holders accepted reads)
+    (or_cases (is_held (heard h event answer) name || is_named (heard h event answer) name) (is_read s.limits.page (heard h event answer) name) e)
+  where
+    holds : is_held h name ≡ true → is_rooted s.limits.page h name ≡ true
+    holds f = or_first (is_held h name || is_named h name) (is_read s.limits.page h name) (or_first (is_held h name) (is_named h name) f)
+    names : is_named h name ≡ true → is_rooted s.limits.page h name ≡ true
+    names f = or_first (is_held h name || is_named h name) (is_read s.limits.page h name) (or_second (is_held h name) (is_named h name) f)
