@@ -26,3 +26,4 @@ pub mod SettledLemmas
 pub mod AfterLemmas
 pub mod RefusedLemmas
 pub mod RootLemmas
+pub mod ShrinkLemmas
