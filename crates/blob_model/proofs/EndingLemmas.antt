@@ -36,7 +36,7 @@ pub none_that : {X : Type 0} (cases : List (Bool × X)) → AllByRecursion (λ (
 none_that [] all = refl
 none_that (case ∷ cases) all = rw (all.0, first_that) (none_that cases all.1)
 
-some_that : {X : Type 0} (P : X → Type 0) (cases : List (Bool × X)) (x : X) → AllByRecursion (λ (case : Bool × X). P (case.1)) cases → first_that cases ≡ Some x → P x
+pub some_that : {X : Type 0} (P : X → Type 0) (cases : List (Bool × X)) (x : X) → AllByRecursion (λ (case : Bool × X). P (case.1)) cases → first_that cases ≡ Some x → P x
 some_that P [] x all e = cc
 some_that {X = X} P (case ∷ cases) x all e = go (case.0) (some_that P cases x all.1) e
   where

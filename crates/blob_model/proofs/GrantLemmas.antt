@@ -58,7 +58,7 @@ filter_others name (x ∷ list) e =
     (λ i. cond (not (other i)) (x ∷ filter (λ (y : Build). not (name == y.name)) list) (filter (λ (y : Build). not (name == y.name)) list)) ∙ ap (λ xs. x ∷ xs) (filter_others name list parts.1)
 
 -- after the head is granted the others wait
-waits_next : (page : ℕ) (h : History) (build : Build) (more : List Build) → Distinct (builds page h) → waits page h ≡ build ∷ more → waits page (said h (answers.Granted build.name)) ≡ more
+pub waits_next : (page : ℕ) (h : History) (build : Build) (more : List Build) → Distinct (builds page h) → waits page h ≡ build ∷ more → waits page (said h (answers.Granted build.name)) ≡ more
 waits_next page h build more distinct e =
     let d : Distinct (build ∷ more) = subst Distinct e (distinct_filter (is_waiting h) (builds page h) distinct) in
     filter_same (is_waiting (said h (answers.Granted build.name))) (λ (x : Build). not (build.name == x.name) && is_waiting h x) (builds page h)

@@ -27,3 +27,5 @@ pub mod AfterLemmas
 pub mod RefusedLemmas
 pub mod RootLemmas
 pub mod ShrinkLemmas
+pub mod StepMemory
+pub mod GrantMemory

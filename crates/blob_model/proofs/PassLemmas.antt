@@ -44,7 +44,7 @@ pass_quiet s g (build ∷ list) =
     quiet_append (ending_answers s g build) (endings_of s (said_all g (ending_answers s g build)) list)
     (one_by s g build AllQuiet tt (λ answer e. (ending_quiet s g build answer e, tt))) (pass_quiet s (said_all g (ending_answers s g build)) list)
 
-pass_grants : (s : Session) (g : History) (list : List Build) (name : ℕ) → was_granted (said_all g (endings_of s g list)) name ≡ was_granted g name
+pub pass_grants : (s : Session) (g : History) (list : List Build) (name : ℕ) → was_granted (said_all g (endings_of s g list)) name ≡ was_granted g name
 pass_grants s g [] name = refl
 pass_grants s g (build ∷ list) name =
     let here : was_granted (said_all g (ending_answers s g build)) name ≡ was_granted g name =

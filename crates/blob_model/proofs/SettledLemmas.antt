@@ -34,11 +34,11 @@ use Rattle.blob_model.proofs.GrantLemmas.{grants_done, grants_still, grants_late
 
 -- ---- the steps one after the other
 
-abbrev run : List (History → List Answer) → History → History
+abbrev pub run : List (History → List Answer) → History → History
 run [] h = h
 run (step ∷ steps) h = run steps (said_all h (step h))
 
-settle_run : (steps : List (History → List Answer)) (h : History) → said_all h (settle_by steps h) ≡ run steps h
+pub settle_run : (steps : List (History → List Answer)) (h : History) → said_all h (settle_by steps h) ≡ run steps h
 settle_run [] h = refl
 settle_run (step ∷ steps) h = said_append h (step h) (settle_by steps (said_all h (step h))) ∙ settle_run steps (said_all h (step h))
 
@@ -89,7 +89,7 @@ drops_grant : (h : History) (list : List Build) (name : ℕ) → was_granted (sa
 drops_grant h [] name = refl
 drops_grant h (build ∷ list) name = drops_grant (said h (dropping build)) list name
 
-removals_still : (s : Session) (unremoved : List ℕ) (h : History) (name : ℕ) → was_granted (said_all h (removals s unremoved h)) name ≡ was_granted h name
+pub removals_still : (s : Session) (unremoved : List ℕ) (h : History) (name : ℕ) → was_granted (said_all h (removals s unremoved h)) name ≡ was_granted h name
 removals_still s unremoved h name = go h (filter (is_due h (files s.limits.page h)) (pages h))
   where
     go : (g : History) (list : List Page) → was_granted (said_all g (map (removal unremoved) list)) name ≡ was_granted g name
