@@ -29,3 +29,5 @@ pub mod RootLemmas
 pub mod ShrinkLemmas
 pub mod StepMemory
 pub mod GrantMemory
+pub mod NewMemory
+pub mod BuildMemory

@@ -54,7 +54,7 @@ live_sub page h g (build ∷ earlier) later' later roots begun sub =
 
 -- ---- cells of live blobs
 
-some_any : {X : Type 0} (test : X → Bool) (xs : List X) → some_passes test xs ≡ list_any test xs
+pub some_any : {X : Type 0} (test : X → Bool) (xs : List X) → some_passes test xs ≡ list_any test xs
 some_any test [] = refl
 some_any {X = X} test (x ∷ xs) = go (test x) (some_any test xs)
   where

@@ -174,7 +174,7 @@ sum_either {X = X} f p' q' p q r (x ∷ xs) up = go (q' x) (q x) (p' x) (p x) (r
 abbrev pub of_blob : ℕ → List Piece → ℕ
 of_blob name list = sum_by (λ (piece : Piece). piece.len) (filter (λ (piece : Piece). piece.blob == name) list)
 
-filter_append : (test : Piece → Bool) (xs ys : List Piece) → filter test (xs ++ ys) ≡ filter test xs ++ filter test ys
+pub filter_append : (test : Piece → Bool) (xs ys : List Piece) → filter test (xs ++ ys) ≡ filter test xs ++ filter test ys
 filter_append test [] ys = refl
 filter_append test (x ∷ xs) ys = go (test x) (filter_append test xs ys)
   where
