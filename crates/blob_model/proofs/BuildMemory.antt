@@ -29,7 +29,7 @@ use Rattle.blob_model.proofs.NewMemory.{SubOr, live_plus}
 
 -- ---- sums with a fact of each item
 
-sum_where : {X : Type 0} (f : X → ℕ) (p' q' p q : X → Bool) (xs : List X) → AllByRecursion (λ (x : X). p' x ≡ true → q' x ≡ true → (p x ≡ true) × (q x ≡ true)) xs
+pub sum_where : {X : Type 0} (f : X → ℕ) (p' q' p q : X → Bool) (xs : List X) → AllByRecursion (λ (x : X). p' x ≡ true → q' x ≡ true → (p x ≡ true) × (q x ≡ true)) xs
     → sum_by f (filter p' (filter q' xs)) ≤ sum_by f (filter p (filter q xs))
 sum_where f p' q' p q [] all = omega arith
 sum_where {X = X} f p' q' p q (x ∷ xs) all = go (q' x) (q x) (p' x) (p x) refl refl all.0 (sum_where f p' q' p q xs all.1)
@@ -65,7 +65,7 @@ pieces_more page number (build ∷ list) x =
     (rest.0, ap (λ (zs : List Piece). numbered build.name number (spans_of page build) ++ zs) rest.1
         ∙ sym (append_assoc (numbered build.name number (spans_of page build)) (pieces_from page (number + length (spans_of page build)) list) (pieces_from page rest.0 (x ∷ []))))
 
-numbered_named : (P : ℕ → Type 0) (blob number : ℕ) (spans : List (ℕ × ℕ)) → P blob → AllByRecursion (λ (piece : Piece). P piece.blob) (numbered blob number spans)
+pub numbered_named : (P : ℕ → Type 0) (blob number : ℕ) (spans : List (ℕ × ℕ)) → P blob → AllByRecursion (λ (piece : Piece). P piece.blob) (numbered blob number spans)
 numbered_named P blob number [] one = tt
 numbered_named P blob number (span ∷ spans) one = (one, numbered_named P blob (number + 1) spans one)
 

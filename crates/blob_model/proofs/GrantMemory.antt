@@ -58,7 +58,7 @@ granted_or h name (Some build) blob at e =
         (λ (before : was_granted h build.name ≡ true). inl (or_second (option_map_or grants_at_once build.plan false) (was_granted h build.name) before)) (or_cases (name == build.name) (was_granted h build.name) was))
     (or_cases (option_map_or grants_at_once build.plan false) (was_granted (said h (answers.Granted name)) build.name) e)
 
-found_name : (list : List Build) (name : ℕ) (build : Build) → build_in list name ≡ Some build → build.name ≡ name
+pub found_name : (list : List Build) (name : ℕ) (build : Build) → build_in list name ≡ Some build → build.name ≡ name
 found_name [] name build e = cc
 found_name (x ∷ list) name build e = go (x.name == name) refl e (found_name list name build)
   where

@@ -45,7 +45,7 @@ use Rattle.blob_model.proofs.KeptLemmas.{Kept, for_each, waiting_heard, unfinish
 sum_append : (xs ys : List ℕ) → sum (xs ++ ys) ≡ sum xs + sum ys
 sum_append xs ys = sum_by-append (λ (x : ℕ). x) xs ys
 
-embedded_within : (parts : List Part) → length (embedded parts) ≤ own_bytes parts
+pub embedded_within : (parts : List Part) → length (embedded parts) ≤ own_bytes parts
 embedded_within [] = omega arith
 embedded_within (Embedded bytes ∷ parts) =
     let rest : length (embedded parts) ≤ own_bytes parts = embedded_within parts in
@@ -106,7 +106,7 @@ found_named (build ∷ list) name = go (build.name == name) (found_named list na
     go false rest = rest
 
 -- a test that fails everywhere fails at a name in the list
-fails_at : (test : ℕ → Bool) (list : List ℕ) (name : ℕ) → list_any test list ≡ false → list_any (λ (each : ℕ). each == name) list ≡ true → test name ≡ false
+pub fails_at : (test : ℕ → Bool) (list : List ℕ) (name : ℕ) → list_any test list ≡ false → list_any (λ (each : ℕ). each == name) list ≡ true → test name ≡ false
 fails_at test [] name none has = absurd (false_true has)
 fails_at test (x ∷ list) name none has =
     let parts = or_parts (test x) (list_any test list) none in

@@ -31,3 +31,4 @@ pub mod StepMemory
 pub mod GrantMemory
 pub mod NewMemory
 pub mod BuildMemory
+pub mod FitLemmas
