@@ -32,3 +32,4 @@ pub mod GrantMemory
 pub mod NewMemory
 pub mod BuildMemory
 pub mod FitLemmas
+pub mod BoundLemmas

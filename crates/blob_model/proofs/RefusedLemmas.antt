@@ -54,7 +54,7 @@ module _ (s : Session) (h : History) (event : Event) (why : Refusal) where
   pub reached_over : reached s.limits.page over ≡ reached s.limits.page h
   reached_over = ap (λ cells. reached_of h (builds s.limits.page h) cells (pieces s.limits.page h)) cells_over
 
-  memory_over : memory s.limits.page over ≡ memory s.limits.page h
+  pub memory_over : memory s.limits.page over ≡ memory s.limits.page h
   memory_over = ap (memory_of h (builds s.limits.page h)) reached_over
 
   pub tally_over : tally s.limits.page over ≡ tally s.limits.page h

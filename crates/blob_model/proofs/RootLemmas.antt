@@ -59,13 +59,13 @@ held_by h holder name holders has =
     any_up (λ (renderer : Renderer). renderer.number == holder) (λ (renderer : Renderer). has_handle h renderer.number name) (spawned h)
     (λ renderer e. subst (λ (n : ℕ). has_handle h n name ≡ true) (sym (eqb-true renderer.number holder e)) has) (holders holder name has)
 
-holder_of : (h : History) (name : ℕ) → is_held h name ≡ true → (renderer : Renderer) × (has_handle h renderer.number name ≡ true)
+pub holder_of : (h : History) (name : ℕ) → is_held h name ≡ true → (renderer : Renderer) × (has_handle h renderer.number name ≡ true)
 holder_of h name e = some_of (λ (renderer : Renderer). has_handle h renderer.number name) (spawned h) e
 
 alive_spawned : (h : History) (number : ℕ) → not (is_alive h number) ≡ false → is_spawned h number ≡ true
 alive_spawned h number e = (and_parts (is_spawned h number) (not (is_dead h number)) (not_false (is_alive h number) e)).0
 
-one_case : (c : Bool) (n : ℕ) → nat_lt 0 (cond c 1 n) ≡ true → (c ≡ true) ⊎ (nat_lt 0 n ≡ true)
+pub one_case : (c : Bool) (n : ℕ) → nat_lt 0 (cond c 1 n) ≡ true → (c ≡ true) ⊎ (nat_lt 0 n ≡ true)
 one_case true n e = inl refl
 one_case false n e = inr e
 
