@@ -1,5 +1,5 @@
 -- After each group of a legal transcript nothing is owed.
-use Rattle.std.proofs.Common.{◌≡◌, ◌⊎◌, ℕ, zero, suc, Bool, true, false, ◌&&◌, not, List, [], ◌∷◌, ◌++◌, refl, ap, subst, sym, ◌∙◌, inl, inr, ⊎_elim, Option, Some, None, append-nil}
+use Rattle.std.proofs.Common.{◌≡◌, ℕ, zero, suc, List, [], ◌∷◌, ◌++◌, refl, ap, subst, sym, ◌∙◌, inl, inr, Option, Some, None, append-nil}
 use Rattle.blob_words.specs.declared.number.ReaderId.{ReaderId}
 use Rattle.blob_words.specs.declared.number.JobNo.{JobNo}
 use Rattle.blob_words.specs.declared.plan.Plan.{Plan}
@@ -13,7 +13,7 @@ use Rattle.answer_text.specs.declared.answer.Answer.TheVariants as answers
 use Rattle.answer_text.specs.declared.refusal.Refusal.{Refusal}
 use Rattle.answer_text.specs.declared.group.Group.{Group}
 use Rattle.blob_model.specs.Session.{Session}
-use Rattle.blob_model.specs.History.{History, start, said, heard_first, said_all, after, history_from}
+use Rattle.blob_model.specs.History.{History, start, heard_first, said_all, after, history_from}
 use Rattle.blob_model.specs.Builds.{Cell, sent, filed, lent}
 use Rattle.blob_model.specs.Standing.{ended}
 use Rattle.blob_model.specs.Readers.{OpenReader, reader_at}
@@ -25,7 +25,7 @@ use Rattle.blob_model.specs.Tally.{job_left}
 use Rattle.blob_model.specs.Refusals.{refusal}
 use Rattle.blob_model.specs.Choice.{IsOneOf}
 use Rattle.blob_model.specs.Settle.{settle, IsSettled}
-use Rattle.blob_model.specs.Own.{accepted, failing, unstored, plan_in, job_done, job_failed, source_of, page_fault, sent_fault, cell_fault, read_faults, IsGiven, IsRead, IsNext, IsStepBy, IsStep, IsAccepted, IsOwnBy, IsOwn}
+use Rattle.blob_model.specs.Own.{accepted, failing, unstored, plan_in, job_failed, source_of, page_fault, sent_fault, cell_fault, read_faults, IsRead, IsNext, IsStepBy, IsStep, IsAccepted, IsOwnBy, IsOwn}
 use Rattle.blob_model.specs.Legal.{left_files, IsLegalGroup, IsLegalFrom}
 use Rattle.blob_model.proofs.SameLemmas.{said_append}
 use Rattle.blob_model.proofs.KeptLemmas.{Kept}

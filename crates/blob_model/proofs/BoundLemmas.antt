@@ -1,12 +1,10 @@
 -- In a legal transcript the bytes in memory never pass the limit.
-use Rattle.std.proofs.Common.{◌≡◌, ◌⊎◌, ℕ, zero, suc, ◌+◌, ◌≤◌, ◌<◌, ◌==◌, Bool, true, false, ◌&&◌, ◌||◌, not, List, [], ◌∷◌, ◌++◌, map, reverse, length, refl, ap, subst, sym, ◌∙◌, inl, inr, ⊎_elim, arith, Option, Some, None, append-nil, ℤ}
-use Rattle.std.specs.Prelude.{cond, filter, find, is_none, is_some, nat_lt, if◌then◌else◌}
+use Rattle.std.proofs.Common.{◌≡◌, ℕ, zero, suc, ◌≤◌, Bool, true, false, ◌&&◌, not, List, [], ◌∷◌, ◌++◌, refl, ap, subst, sym, ◌∙◌, inl, inr, arith, Option, Some, None}
+use Rattle.std.specs.Prelude.{cond, find, if◌then◌else◌}
 use Rattle.std.specs.Option.{option_map_or}
-use Rattle.std.specs.List.{AllByRecursion, list_any}
-use Rattle.std.proofs.lemmas.Bool.{and_parts, or_parts, eqb-true, eq-eqb}
+use Rattle.std.specs.List.{AllByRecursion}
+use Rattle.std.proofs.lemmas.Bool.{and_parts}
 use Rattle.std.proofs.lemmas.List.{reverse-append}
-use Rattle.std.proofs.lemmas.List.Folds.{list_any-append}
-use Rattle.blob_words.specs.declared.number.RendererId.{RendererId}
 use Rattle.blob_words.specs.declared.number.ReaderId.{ReaderId}
 use Rattle.blob_words.specs.declared.number.JobNo.{JobNo}
 use Rattle.blob_words.specs.declared.plan.Plan.{Plan}
@@ -15,54 +13,36 @@ use Rattle.blob_words.specs.declared.status.Status.{Status}
 use Rattle.blob_words.specs.declared.status.Status.TheVariants as statuses
 use Rattle.session_script.specs.declared.event.Event.{Event}
 use Rattle.session_script.specs.declared.event.Event.TheVariants as events
-use Rattle.session_script.specs.declared.event.Part.{Part}
 use Rattle.answer_text.specs.declared.answer.Answer.{Answer}
 use Rattle.answer_text.specs.declared.answer.Answer.TheVariants as answers
-use Rattle.answer_text.specs.declared.refusal.Refusal.{Refusal}
-use Rattle.answer_text.specs.declared.group.Group.{Group}
 use Rattle.blob_model.specs.Session.{Session}
-use Rattle.blob_model.specs.History.{History, start, heard, refused, said, heard_first, said_all, after, history_from}
-use Rattle.blob_model.specs.Builds.{Cell, sent, filed, lent, Build, builds, slice_parts}
-use Rattle.blob_model.specs.Standing.{ended, is_broken_status, is_unfinished, was_granted}
-use Rattle.blob_model.specs.Handles.{has_handle, count, is_held}
-use Rattle.blob_model.specs.Entries.{is_named, owns_entry}
-use Rattle.blob_model.specs.Readers.{OpenReader, reader_at, is_read}
-use Rattle.blob_model.specs.Live.{is_rooted}
+use Rattle.blob_model.specs.History.{History, heard, said, heard_first, said_all, after}
+use Rattle.blob_model.specs.Builds.{Cell, sent, filed, lent}
+use Rattle.blob_model.specs.Standing.{ended, is_broken_status}
+use Rattle.blob_model.specs.Entries.{owns_entry}
+use Rattle.blob_model.specs.Readers.{OpenReader, reader_at}
 use Rattle.blob_model.specs.Pieces.{Piece, pieces, piece_with}
 use Rattle.blob_model.specs.Pages.{Page, Place, in_page, in_memory, reserved, place, pages, pages_after, page_with, lists, numbers}
 use Rattle.blob_model.specs.Jobs.{in_flight}
-use Rattle.blob_model.specs.Tally.{job_left, memory, files}
-use Rattle.blob_model.specs.Waits.{is_waiting, waits}
+use Rattle.blob_model.specs.Tally.{job_left, memory}
 use Rattle.blob_model.specs.Chunk.{left, chunk, file_of, first_failing, before_failing}
-use Rattle.blob_model.specs.Construct.{line_status, build_answer, build_answer_by, plan_for}
-use Rattle.blob_model.specs.Refusals.{refusal, refusals_of}
+use Rattle.blob_model.specs.Refusals.{refusal}
 use Rattle.blob_model.specs.Choice.{IsOneOf}
-use Rattle.blob_model.specs.Settle.{drops, endings, removals, grants, page_jobs, compactions, settle}
-use Rattle.blob_model.specs.Own.{accepted, failing, stored, unstored, plan_in, job_done, job_failed, source_of, page_fault, sent_fault, cell_fault, read_faults, IsRead, IsNext, IsStepBy, IsStep, IsAccepted, IsOwnBy, IsOwn}
-use Rattle.blob_model.specs.Legal.{left_files, IsLegalGroup, IsLegalFrom}
+use Rattle.blob_model.specs.Own.{accepted, failing, stored, unstored, plan_in, job_done, job_failed, source_of, page_fault, sent_fault, cell_fault, read_faults, IsRead, IsNext, IsStepBy, IsStep, IsAccepted}
 use Rattle.blob_model.specs.Laws.{is_build, is_ending, is_grant}
 use Rattle.blob_model.proofs.Same.{false_true}
-use Rattle.blob_model.proofs.Check.{or_cases, or_first, or_second}
 use Rattle.blob_model.proofs.ChangeLemmas.{change_laws}
-use Rattle.blob_model.proofs.LiveLemmas.{named}
-use Rattle.blob_model.proofs.OrderLemmas.{named_filter}
-use Rattle.blob_model.proofs.StepLemmas.{only_one, planned_first}
-use Rattle.blob_model.proofs.KeptLemmas.{Kept, unfinished_said, unfinished_heard}
-use Rattle.blob_model.proofs.HeardLemmas.{tests_fail, found_named, new_build}
-use Rattle.blob_model.proofs.GroupLemmas.{kept_own, kept_start}
-use Rattle.blob_model.proofs.AfterLemmas.{own_first, after_own}
+use Rattle.blob_model.proofs.KeptLemmas.{unfinished_said, unfinished_heard}
 use Rattle.blob_model.proofs.RefusedLemmas.{memory_over}
-use Rattle.blob_model.proofs.RootLemmas.{HoldersSpawned, holders_heard, rooted_before, held_by, holder_of, one_case}
+use Rattle.blob_model.proofs.RootLemmas.{HoldersSpawned, rooted_before}
 use Rattle.blob_model.proofs.ShrinkLemmas.{Shrinks, memory_shrinks}
-use Rattle.blob_model.proofs.GrantMemory.{settle_fits}
-use Rattle.blob_model.proofs.FitLemmas.{build_fits}
 
 -- ---- plain answers
 
-abbrev is_plain : Answer → Bool
+abbrev pub is_plain : Answer → Bool
 is_plain answer = not (is_ending answer) && not (is_grant answer)
 
-abbrev AllPlain : List Answer → Type 0
+abbrev pub AllPlain : List Answer → Type 0
 AllPlain own = AllByRecursion (λ (answer : Answer). is_plain answer ≡ true) own
 
 abbrev EachPlain : List (List Answer) → Type 0
@@ -131,7 +111,7 @@ revoke_plain : (b : Bool) → is_plain (if b then answers.Revoked else answers.N
 revoke_plain true = refl
 revoke_plain false = refl
 
-line_plain : (s : Session) (h : History) (event : Event) (own : List Answer) → is_build event ≡ false → IsAccepted s h event own → AllPlain own
+pub line_plain : (s : Session) (h : History) (event : Event) (own : List Answer) → is_build event ≡ false → IsAccepted s h event own → AllPlain own
 line_plain s h (events.Build renderer name kind parts) own other one = absurd (false_true (sym other))
 line_plain s h (events.Slice renderer name source from to kind) own other one = absurd (false_true (sym other))
 line_plain s h (events.Step reader) own other one = found_plain s h reader (reader_at s.limits.page h reader.0) own one
@@ -143,7 +123,7 @@ line_plain s h event own other one = plain_one own (accepted s h event ∷ faili
 
 -- ---- plain answers keep memory
 
-not_true : (b : Bool) → not b ≡ true → b ≡ false
+pub not_true : (b : Bool) → not b ≡ true → b ≡ false
 not_true true e = absurd (false_true e)
 not_true false e = refl
 
@@ -195,6 +175,6 @@ plain_first : (s : Session) (h : History) (event : Event) (answer : Answer) → 
 plain_first s h event (answers.Refused why) holders accepted other plain fits = let same = memory_over s h event why in omega (arith, same, fits)
 plain_first s h event answer holders accepted other plain fits = let less = memory_shrinks s.limits.page h (heard h event answer) (plain_heard s h event answer holders accepted other plain) in omega (arith, less, fits)
 
-plain_line : (s : Session) (h : History) (event : Event) (own : List Answer) → HoldersSpawned h → refusal s h event ≡ None → is_build event ≡ false → AllPlain own → memory s.limits.page h ≤ s.limits.memory → memory s.limits.page (after h event own) ≤ s.limits.memory
+pub plain_line : (s : Session) (h : History) (event : Event) (own : List Answer) → HoldersSpawned h → refusal s h event ≡ None → is_build event ≡ false → AllPlain own → memory s.limits.page h ≤ s.limits.memory → memory s.limits.page (after h event own) ≤ s.limits.memory
 plain_line s h event [] holders accepted other all fits = fits
 plain_line s h event (answer ∷ more) holders accepted other all fits = plain_all s (heard_first h event answer) more all.1 (plain_first s h event answer holders accepted other all.0 fits)

@@ -1,26 +1,24 @@
 -- In a legal transcript each blob has as many cells as its size.
-use Rattle.std.proofs.Common.{◌≡◌, ◌⊎◌, ℕ, ◌+◌, ◌-◌, ◌≤◌, ◌<◌, ◌==◌, Bool, true, false, ◌&&◌, ◌||◌, not, List, [], ◌∷◌, ◌++◌, length, take, drop, map, min, refl, ap, subst, sym, ◌∙◌, arith, Option, Some, None, length-take, length-drop, length-append}
-use Rattle.std.specs.Prelude.{cond, find, nat_lt, sum_by, ◌^◌}
+use Rattle.std.proofs.Common.{◌≡◌, ℕ, ◌+◌, ◌≤◌, ◌==◌, Bool, true, false, ◌&&◌, ◌||◌, not, List, [], ◌∷◌, ◌++◌, length, take, drop, refl, sym, ◌∙◌, arith, Option, Some, None, length-take, length-drop, length-append}
+use Rattle.std.specs.Prelude.{cond, find, nat_lt, ◌^◌}
 use Rattle.std.specs.Option.{option_map_or}
-use Rattle.std.specs.List.{AllByRecursion, list_any, range_with_len}
-use Rattle.std.proofs.lemmas.Bool.{and_parts, or_parts, ltb-false}
+use Rattle.std.specs.List.{AllByRecursion, list_any}
+use Rattle.std.proofs.lemmas.Bool.{or_parts, ltb-false}
 use Rattle.std.proofs.lemmas.List.FromFn.{length-map-range_with_len}
 use Rattle.std.proofs.lemmas.List.Sums.{sum_by-cons}
-use Rattle.blob_words.specs.declared.plan.Plan.{Plan}
 use Rattle.blob_words.specs.declared.status.Status.{Status}
 use Rattle.session_script.specs.declared.event.Part.{Part}
 use Rattle.session_script.specs.declared.event.Part.TheVariants.{Embedded, Asked, FileRange, BlobRange, HandleRange}
-use Rattle.answer_text.specs.declared.answer.Answer.{Answer}
 use Rattle.answer_text.specs.declared.group.Group.{Group}
 use Rattle.blob_model.specs.Session.{Session}
 use Rattle.blob_model.specs.History.{History, start, after, history_from}
 use Rattle.blob_model.specs.Parts.{part_length, parts_length, sources}
-use Rattle.blob_model.specs.Builds.{Cell, Build, builds, build_in, size, size_in, cells_in, cells_of, own_cells, file_cells, handle_cells, planned_cells, planned_size, plan_told, built, sent, filed, lent}
+use Rattle.blob_model.specs.Builds.{Cell, Build, builds, size, size_in, cells_in, cells_of, own_cells, file_cells, handle_cells, planned_cells, planned_size, plan_told, built, sent, filed, lent}
 use Rattle.blob_model.specs.Standing.{is_broken}
 use Rattle.blob_model.specs.Handles.{has_handle}
-use Rattle.blob_model.specs.Construct.{is_invalid, is_lost_source, is_unrecorded, is_out_of_memory, plan_for, line_tests, line_status, build_answer, build_answer_by}
+use Rattle.blob_model.specs.Construct.{is_invalid, is_lost_source, line_tests, line_status, build_answer, build_answer_by}
 use Rattle.blob_model.specs.Choice.{first_that}
-use Rattle.blob_model.specs.Legal.{IsLegalGroup, IsLegalFrom}
+use Rattle.blob_model.specs.Legal.{IsLegalFrom}
 use Rattle.blob_model.proofs.Same.{false_true}
 use Rattle.blob_model.proofs.StepLemmas.{Grows, by_none, by_one, grows}
 

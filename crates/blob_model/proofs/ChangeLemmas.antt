@@ -1,5 +1,5 @@
 -- After which lines and answers alone each notion changes: cases, each computed.
-use Rattle.std.proofs.Common.{◌≡◌, ℕ, Bool, true, false, List, refl, Option}
+use Rattle.std.proofs.Common.{◌≡◌, ℕ, true, false, List, refl}
 use Rattle.blob_words.specs.declared.limits.Limits.{Limits}
 use Rattle.session_script.specs.declared.event.Event.{Event}
 use Rattle.session_script.specs.declared.event.Event.TheVariants as events
@@ -17,8 +17,7 @@ use Rattle.blob_model.specs.Readers.{readers}
 use Rattle.blob_model.specs.Pages.{pages, next_page, asked}
 use Rattle.blob_model.specs.Jobs.{in_flight, next_job, paging, turns_off}
 use Rattle.blob_model.specs.Victims.{last_uses}
-use Rattle.blob_model.specs.Laws.{ChangesWith, ChangeLaws, never, by_event, by_first, is_spawn, is_death, is_file, is_file_or_gone, is_build, is_segment, moves_handle, moves_entry, moves_reader, is_ending, is_grant, is_done_answer, is_written, is_write, is_removal, is_start, is_start_or_end, is_reading}
-use Rattle.blob_model.proofs.Same.{false_true}
+use Rattle.blob_model.specs.Laws.{ChangeLaws, by_event, is_spawn, is_death, is_file, is_file_or_gone, is_build, is_segment, moves_handle, moves_entry, moves_reader, is_ending, is_grant, is_done_answer, is_written, is_write, is_removal, is_start, is_start_or_end, is_reading}
 
 true_false : true ≡ false → ⊥
 true_false e = cc

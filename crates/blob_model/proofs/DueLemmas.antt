@@ -1,30 +1,26 @@
 -- Removals are done once, and so are grants and jobs.
-use Rattle.std.proofs.Common.{◌≡◌, ◌⊎◌, ℕ, ◌==◌, ◌+◌, ◌≤◌, ◌<◌, Bool, true, false, ◌&&◌, ◌||◌, not, List, [], ◌∷◌, ◌++◌, map, reverse, length, refl, ap, subst, sym, ◌∙◌, inl, inr, ⊎_elim, arith, Option, Some, None}
-use Rattle.std.specs.Prelude.{cond, filter, is_none, find, nat_lt, nat_le, if◌then◌else◌}
-use Rattle.std.specs.Option.{option_map, option_map_or, option_to_list}
+use Rattle.std.proofs.Common.{◌≡◌, ℕ, ◌==◌, ◌≤◌, ◌<◌, Bool, true, false, ◌&&◌, not, List, [], ◌∷◌, ◌++◌, map, length, refl, ap, subst, sym, ◌∙◌, ⊎_elim, arith, Option, Some, None}
+use Rattle.std.specs.Prelude.{cond, filter, nat_lt, if◌then◌else◌}
+use Rattle.std.specs.Option.{option_map_or}
 use Rattle.std.specs.List.{AllByRecursion, list_any}
-use Rattle.std.proofs.lemmas.Bool.{and_parts, or_parts, ltb-true, lt-ltb, eqb-true, eq-eqb}
+use Rattle.std.proofs.lemmas.Bool.{and_parts, ltb-true, lt-ltb, eq-eqb}
 use Rattle.answer_text.specs.declared.answer.Answer.{Answer}
 use Rattle.answer_text.specs.declared.answer.Answer.TheVariants as answers
 use Rattle.blob_model.specs.Session.{Session}
 use Rattle.blob_model.specs.History.{History, said, said_all}
-use Rattle.blob_model.specs.Parts.{own_bytes}
 use Rattle.blob_model.specs.Builds.{Build, builds, build_in}
-use Rattle.blob_model.specs.Standing.{ended, is_unfinished, was_granted, is_granted, grants_at_once}
+use Rattle.blob_model.specs.Standing.{is_granted}
 use Rattle.blob_model.specs.Pieces.{Piece, pieces, pieces_from}
 use Rattle.blob_model.specs.Reached.{reached, live_cells, is_granted_piece, owns_some}
 use Rattle.blob_model.specs.Pages.{Page, pages, asked, asked_after, place_by, page_with, is_page}
-use Rattle.blob_model.specs.Jobs.{in_flight, paging}
-use Rattle.blob_model.specs.Tally.{in_page_of, files_of, files, memory}
-use Rattle.blob_model.specs.Waits.{is_waiting, is_shared, waits}
-use Rattle.blob_model.specs.Settle.{removal, removals, is_due, grants_of, grants}
+use Rattle.blob_model.specs.Tally.{in_page_of, files}
+use Rattle.blob_model.specs.Settle.{removal, removals, is_due}
 use Rattle.blob_model.proofs.Same.{false_true}
 use Rattle.blob_model.proofs.Check.{or_cases, or_first, or_second}
-use Rattle.blob_model.proofs.LiveLemmas.{named, any_append_first, any_append_second}
-use Rattle.blob_model.proofs.OrderLemmas.{Distinct, distinct_filter}
-use Rattle.blob_model.proofs.SameLemmas.{filter_same, filter_none, builds_all}
+use Rattle.blob_model.proofs.LiveLemmas.{any_append_first, any_append_second}
+use Rattle.blob_model.proofs.SameLemmas.{filter_none, builds_all}
 use Rattle.blob_model.proofs.EndingLemmas.{is_granted_all}
-use Rattle.blob_model.proofs.LateLemmas.{is_late, AllLate, AllStill, pages_late, cells_late, memory_still, waits_still, more_filtered}
+use Rattle.blob_model.proofs.LateLemmas.{is_late, AllLate, pages_late, cells_late, more_filtered}
 
 -- ---- page files that hold a reached piece go on doing so
 

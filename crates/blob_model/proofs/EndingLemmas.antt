@@ -1,9 +1,9 @@
 -- After a pass over the blobs in order of build no blob is owed an ending.
-use Rattle.std.proofs.Common.{◌≡◌, ◌⊎◌, ℕ, ◌==◌, Bool, true, false, ◌&&◌, ◌||◌, not, List, [], ◌∷◌, ◌++◌, map, length, refl, ap, subst, sym, ◌∙◌, inl, inr, ⊎_elim, Option, Some, None}
-use Rattle.std.specs.Prelude.{cond, filter, is_none, is_some, if◌then◌else◌}
+use Rattle.std.proofs.Common.{◌≡◌, ℕ, ◌==◌, Bool, true, false, ◌&&◌, ◌||◌, not, List, [], ◌∷◌, refl, ap, subst, sym, ◌∙◌, ⊎_elim, Option, Some, None}
+use Rattle.std.specs.Prelude.{cond, is_none, if◌then◌else◌}
 use Rattle.std.specs.Option.{option_map_or, option_to_list}
-use Rattle.std.specs.List.{AllByRecursion, list_any, list_all, range_with_len}
-use Rattle.std.proofs.lemmas.Bool.{and_parts, or_parts, eqb-true, eq-eqb}
+use Rattle.std.specs.List.{AllByRecursion, list_any, list_all}
+use Rattle.std.proofs.lemmas.Bool.{and_parts, or_parts, eq-eqb}
 use Rattle.answer_text.specs.declared.answer.Answer.{Answer}
 use Rattle.answer_text.specs.declared.answer.Answer.TheVariants as answers
 use Rattle.blob_words.specs.declared.version.Version.{Version}
@@ -14,21 +14,19 @@ use Rattle.blob_model.specs.Session.{Session}
 use Rattle.blob_model.specs.History.{History, said, said_all}
 use Rattle.blob_model.specs.Renderers.{is_alive}
 use Rattle.blob_model.specs.Parts.{sources}
-use Rattle.blob_model.specs.Builds.{Build, builds}
-use Rattle.blob_model.specs.Standing.{ended_after, ended, is_unfinished, is_broken, is_broken_status, is_done, is_done_status, was_granted, is_granted}
-use Rattle.blob_model.specs.Transport.{Arrival, arrivals, has_come, has_all, spans}
+use Rattle.blob_model.specs.Builds.{Build}
+use Rattle.blob_model.specs.Standing.{ended, is_unfinished, is_broken, is_done, was_granted, is_granted}
+use Rattle.blob_model.specs.Transport.{has_all}
 use Rattle.blob_model.specs.Live.{has_source}
-use Rattle.blob_model.specs.Jobs.{unstored, turned_off, breaks_waiting}
+use Rattle.blob_model.specs.Jobs.{unstored, breaks_waiting}
 use Rattle.blob_model.specs.Waits.{is_waiting, has_sources, is_complete}
-use Rattle.blob_model.specs.Settle.{is_unwritten, is_deserted, ending_tests, ending, ending_answers, endings_of, drops}
+use Rattle.blob_model.specs.Settle.{is_deserted, ending_tests, ending, ending_answers}
 use Rattle.blob_model.specs.Choice.{first_that}
 use Rattle.blob_model.proofs.Same.{false_true, both}
 use Rattle.blob_model.proofs.Check.{or_cases, or_first, or_second}
 use Rattle.blob_model.proofs.CellLemmas.{none_applies}
-use Rattle.blob_model.proofs.LiveLemmas.{named}
-use Rattle.blob_model.proofs.OrderLemmas.{AreOrdered, not_later}
-use Rattle.blob_model.proofs.KeptLemmas.{for_each, waiting_said, still_granted}
-use Rattle.blob_model.proofs.SameLemmas.{said_append, kept_by_kind, kept_by_all, unfinished_all, any_same, drops_test, dropping}
+use Rattle.blob_model.proofs.KeptLemmas.{waiting_said, still_granted}
+use Rattle.blob_model.proofs.SameLemmas.{kept_by_kind, kept_by_all}
 
 -- ---- tests
 

@@ -1,6 +1,6 @@
 -- A build within the limits stays within them.
-use Rattle.std.proofs.Common.{◌≡◌, ◌⊎◌, ℕ, zero, suc, ◌+◌, ◌-◌, ◌≤◌, ◌<◌, ◌==◌, Bool, true, false, ◌&&◌, ◌||◌, not, List, [], ◌∷◌, ◌++◌, map, reverse, length, refl, ap, subst, sym, ◌∙◌, inl, inr, ⊎_elim, arith, Option, Some, None, append-nil}
-use Rattle.std.specs.Prelude.{cond, filter, is_none, is_some, sum_by, nat_lt, nat_le}
+use Rattle.std.proofs.Common.{◌≡◌, ◌⊎◌, ℕ, ◌+◌, ◌≤◌, ◌==◌, Bool, true, false, ◌&&◌, ◌||◌, not, List, [], ◌∷◌, ◌++◌, reverse, length, refl, ap, subst, sym, ◌∙◌, arith, Option, Some, None, append-nil}
+use Rattle.std.specs.Prelude.{cond, filter, is_none, sum_by, nat_lt, nat_le}
 use Rattle.std.specs.Option.{option_map_or}
 use Rattle.std.specs.List.{AllByRecursion, list_any}
 use Rattle.std.specs.Int.{div_ceil}
@@ -10,30 +10,28 @@ use Rattle.blob_words.specs.declared.counted.Counted.TheVariants as counted
 use Rattle.blob_words.specs.declared.plan.Plan.{Plan}
 use Rattle.blob_words.specs.declared.plan.Plan.TheVariants as plans
 use Rattle.blob_words.specs.declared.status.Status.{Status}
-use Rattle.blob_words.specs.declared.status.Status.TheVariants as statuses
 use Rattle.session_script.specs.declared.event.Event.{Event}
 use Rattle.session_script.specs.declared.event.Part.{Part}
 use Rattle.answer_text.specs.declared.answer.Answer.{Answer}
 use Rattle.answer_text.specs.declared.answer.Answer.TheVariants as answers
-use Rattle.transport_plan.specs.declared.input.PlanInput.{PlanInput}
-use Rattle.transport_plan.specs.Plan.{plan_of, file_plan, shared_plan, has_file_room, fits_inline}
+use Rattle.transport_plan.specs.Plan.{file_plan, shared_plan, has_file_room, fits_inline}
 use Rattle.transport_plan.specs.Plan.{own_bytes as input_bytes}
 use Rattle.blob_model.specs.Session.{Session}
 use Rattle.blob_model.specs.History.{History, heard}
 use Rattle.blob_model.specs.Parts.{sources, own_bytes, embedded}
-use Rattle.blob_model.specs.Builds.{Cell, Build, builds, build_in, cells_in, cells_of, planned_cells, plan_told}
-use Rattle.blob_model.specs.Standing.{ended, is_unfinished, is_broken, is_broken_status, was_granted, is_granted, grants_at_once}
+use Rattle.blob_model.specs.Builds.{Build, builds, build_in, cells_of, planned_cells, plan_told}
+use Rattle.blob_model.specs.Standing.{ended, is_broken, is_broken_status, was_granted, is_granted, grants_at_once}
 use Rattle.blob_model.specs.Handles.{has_handle, is_held}
 use Rattle.blob_model.specs.Entries.{is_named}
 use Rattle.blob_model.specs.Readers.{is_read}
-use Rattle.blob_model.specs.Live.{is_rooted, has_source, live}
+use Rattle.blob_model.specs.Live.{is_rooted, live}
 use Rattle.blob_model.specs.Pieces.{Piece, pieces_from, numbered, spans_of, owns}
 use Rattle.blob_model.specs.Reached.{some_passes, is_granted_piece, owns_some, live_cells}
-use Rattle.blob_model.specs.Pages.{Page, pages, page_with, place_by, place_in, planned_place, is_memory}
+use Rattle.blob_model.specs.Pages.{Page, pages, page_with, place_by, planned_place, is_memory}
 use Rattle.blob_model.specs.Tally.{memory, bytes_of}
 use Rattle.blob_model.specs.Construct.{is_lost_source, line_tests, line_status, build_answer, build_answer_by, plan_for, plan_input}
 use Rattle.blob_model.proofs.Same.{false_true, both}
-use Rattle.blob_model.proofs.Check.{or_cases, or_first, or_second}
+use Rattle.blob_model.proofs.Check.{or_first}
 use Rattle.blob_model.proofs.CellLemmas.{none_applies}
 use Rattle.blob_model.proofs.LiveLemmas.{named, any_reverse}
 use Rattle.blob_model.proofs.EndingLemmas.{some_that}
@@ -80,9 +78,9 @@ inline_fits : (s : Session) (h : History) (parts : List Part) → plan_for s h p
 inline_fits s h parts e =
     let input = plan_input s h parts in
     let fits : fits_inline (plan_input s h parts) ≡ true =
-        inline_by (input_bytes (plan_input s h parts) == 0) (nat_lt s.limits.memory (input_bytes (plan_input s h parts)) && not (has_file_room (plan_input s h parts))) (nat_lt s.limits.big (input_bytes (plan_input s h parts)) && has_file_room (plan_input s h parts))
-        (fits_inline (plan_input s h parts)) (file_plan (plan_input s h parts).pieces) (shared_plan (div_ceil (input_bytes (plan_input s h parts)) s.limits.segment))
-        (file_other (plan_input s h parts).pieces plans.Inline (λ m f. cc) (λ c f. cc)) (shared_other (div_ceil (input_bytes (plan_input s h parts)) s.limits.segment) plans.Inline (λ m f. cc) (λ c f. cc)) e in
+    inline_by (input_bytes (plan_input s h parts) == 0) (nat_lt s.limits.memory (input_bytes (plan_input s h parts)) && not (has_file_room (plan_input s h parts))) (nat_lt s.limits.big (input_bytes (plan_input s h parts)) && has_file_room (plan_input s h parts))
+    (fits_inline (plan_input s h parts)) (file_plan (plan_input s h parts).pieces) (shared_plan (div_ceil (input_bytes (plan_input s h parts)) s.limits.segment))
+    (file_other (plan_input s h parts).pieces plans.Inline (λ m f. cc) (λ c f. cc)) (shared_other (div_ceil (input_bytes (plan_input s h parts)) s.limits.segment) plans.Inline (λ m f. cc) (λ c f. cc)) e in
     let last = (and_parts _ (nat_le (memory s.limits.page h + input_bytes (plan_input s h parts)) s.limits.memory) fits).1 in
     let room : memory s.limits.page h + input_bytes (plan_input s h parts) ≤ s.limits.memory = leb-true (memory s.limits.page h + input_bytes (plan_input s h parts)) s.limits.memory last in
     let within : length (embedded parts) ≤ own_bytes parts = embedded_within parts in
@@ -91,9 +89,9 @@ inline_fits s h parts e =
 none_bytes : (s : Session) (h : History) (parts : List Part) → plan_for s h parts ≡ plans.None → own_bytes parts ≤ 0
 none_bytes s h parts e =
     let zeroed : (input_bytes (plan_input s h parts) == 0) ≡ true =
-        none_by (input_bytes (plan_input s h parts) == 0) (nat_lt s.limits.memory (input_bytes (plan_input s h parts)) && not (has_file_room (plan_input s h parts))) (nat_lt s.limits.big (input_bytes (plan_input s h parts)) && has_file_room (plan_input s h parts))
-        (fits_inline (plan_input s h parts)) (file_plan (plan_input s h parts).pieces) (shared_plan (div_ceil (input_bytes (plan_input s h parts)) s.limits.segment))
-        (file_other (plan_input s h parts).pieces plans.None (λ m f. cc) (λ c f. cc)) (shared_other (div_ceil (input_bytes (plan_input s h parts)) s.limits.segment) plans.None (λ m f. cc) (λ c f. cc)) e in
+    none_by (input_bytes (plan_input s h parts) == 0) (nat_lt s.limits.memory (input_bytes (plan_input s h parts)) && not (has_file_room (plan_input s h parts))) (nat_lt s.limits.big (input_bytes (plan_input s h parts)) && has_file_room (plan_input s h parts))
+    (fits_inline (plan_input s h parts)) (file_plan (plan_input s h parts).pieces) (shared_plan (div_ceil (input_bytes (plan_input s h parts)) s.limits.segment))
+    (file_other (plan_input s h parts).pieces plans.None (λ m f. cc) (λ c f. cc)) (shared_other (div_ceil (input_bytes (plan_input s h parts)) s.limits.segment) plans.None (λ m f. cc) (λ c f. cc)) e in
     let bytes : input_bytes (plan_input s h parts) ≡ 0 = eqb-true (input_bytes (plan_input s h parts)) 0 zeroed in
     let within : length (embedded parts) ≤ own_bytes parts = embedded_within parts in
     omega (arith, bytes, within)
@@ -120,6 +118,7 @@ cells_live s h renderer name parts piece holders fresh e member owned =
     other : (b : Bool) → (name == piece.blob) ≡ b → b ≡ false
     other false at = refl
     other true at = absurd (false_true (sym fresh ∙ subst (λ (n : ℕ). named n (builds s.limits.page h) ≡ true) (sym (eqb-true name piece.blob at)) member))
+
     look : (source : ℕ) → is_broken h source ≡ false → (found : Option Build) → build_in (builds s.limits.page h) source ≡ found → list_any (owns piece) (option_map_or (λ (build : Build). build.cells) found []) ≡ true
         → list_any (λ (build : Build). (build.name == source) && holds_piece h piece build) (builds s.limits.page h) ≡ true
     look source whole None at cells = absurd (false_true cells)
@@ -179,15 +178,15 @@ module _ (s : Session) (h : History) (event : Event) (renderer name : ℕ) (kind
       let adds = adds_by status e in
       let one = numbered_named (λ (n : ℕ). (n == name) ≡ true) name next (spans_of s.limits.page whole_build) (eq-eqb name name refl) in
       let each : AllByRecursion (λ (piece : Piece). (piece.blob == name) ≡ true) (pieces_from s.limits.page next (whole_build ∷ [])) =
-          subst (λ (xs : List Piece). AllByRecursion (λ (piece : Piece). (piece.blob == name) ≡ true) xs) (sym (append-nil (numbered name next (spans_of s.limits.page whole_build)))) one in
+      subst (λ (xs : List Piece). AllByRecursion (λ (piece : Piece). (piece.blob == name) ≡ true) xs) (sym (append-nil (numbered name next (spans_of s.limits.page whole_build)))) one in
       let low = sum_where (λ (piece : Piece). piece.len) (in_memory_now s.limits.page h (added status) whole_build (adds_by status e)) (reached_now s.limits.page h (added status) whole_build (adds_by status e))
-          (λ (piece : Piece). piece.blob == name) (λ (piece : Piece). true) (pieces_from s.limits.page next (whole_build ∷ []))
-          (for_each (λ (piece : Piece). (piece.blob == name) ≡ true)
-            (λ (piece : Piece). in_memory_now s.limits.page h (added status) whole_build (adds_by status e) piece ≡ true → reached_now s.limits.page h (added status) whole_build (adds_by status e) piece ≡ true → ((piece.blob == name) ≡ true) × (true ≡ true))
-            (pieces_from s.limits.page next (whole_build ∷ [])) (λ piece at a b. (at, refl)) each) in
+      (λ (piece : Piece). piece.blob == name) (λ (piece : Piece). true) (pieces_from s.limits.page next (whole_build ∷ []))
+      (for_each (λ (piece : Piece). (piece.blob == name) ≡ true)
+      (λ (piece : Piece). in_memory_now s.limits.page h (added status) whole_build (adds_by status e) piece ≡ true → reached_now s.limits.page h (added status) whole_build (adds_by status e) piece ≡ true → ((piece.blob == name) ≡ true) × (true ≡ true))
+      (pieces_from s.limits.page next (whole_build ∷ [])) (λ piece at a b. (at, refl)) each) in
       let all : filter (λ (piece : Piece). true) (pieces_from s.limits.page next (whole_build ∷ [])) ≡ pieces_from s.limits.page next (whole_build ∷ []) = everything (pieces_from s.limits.page next (whole_build ∷ [])) in
       let sums : sum_by (λ (piece : Piece). piece.len) (filter (λ (piece : Piece). piece.blob == name) (filter (λ (piece : Piece). true) (pieces_from s.limits.page next (whole_build ∷ [])))) ≡ of_blob name (pieces_from s.limits.page next (whole_build ∷ [])) =
-          ap (of_blob name) all in
+      ap (of_blob name) all in
       let own = blob_bytes s.limits next name (whole_build ∷ []) (refl, tt) in
       let found : option_map_or (λ (build : Build). own_bytes build.parts) (build_in (whole_build ∷ []) name) 0 ≡ own_bytes parts = (λ i. option_map_or (λ (build : Build). own_bytes build.parts) (cond (eq-eqb name name refl i) (Some whole_build) None) 0) in
       omega (arith, low, sums, own, found)
@@ -203,14 +202,14 @@ module _ (s : Session) (h : History) (event : Event) (renderer name : ℕ) (kind
   none_added status e next never =
       let one = numbered_named (λ (n : ℕ). (n == name) ≡ true) name next (spans_of s.limits.page whole_build) (eq-eqb name name refl) in
       let each : AllByRecursion (λ (piece : Piece). (piece.blob == name) ≡ true) (pieces_from s.limits.page next (whole_build ∷ [])) =
-          subst (λ (xs : List Piece). AllByRecursion (λ (piece : Piece). (piece.blob == name) ≡ true) xs) (sym (append-nil (numbered name next (spans_of s.limits.page whole_build)))) one in
+      subst (λ (xs : List Piece). AllByRecursion (λ (piece : Piece). (piece.blob == name) ≡ true) xs) (sym (append-nil (numbered name next (spans_of s.limits.page whole_build)))) one in
       let low = sum_where (λ (piece : Piece). piece.len) (in_memory_now s.limits.page h (added status) whole_build (adds_by status e)) (reached_now s.limits.page h (added status) whole_build (adds_by status e))
-          (λ (piece : Piece). false) (λ (piece : Piece). false) (pieces_from s.limits.page next (whole_build ∷ []))
-          (for_each (λ (piece : Piece). (piece.blob == name) ≡ true)
-            (λ (piece : Piece). in_memory_now s.limits.page h (added status) whole_build (adds_by status e) piece ≡ true → reached_now s.limits.page h (added status) whole_build (adds_by status e) piece ≡ true → (false ≡ true) × (false ≡ true))
-            (pieces_from s.limits.page next (whole_build ∷ [])) (λ piece at a b. absurd (never piece at a b)) each) in
+      (λ (piece : Piece). false) (λ (piece : Piece). false) (pieces_from s.limits.page next (whole_build ∷ []))
+      (for_each (λ (piece : Piece). (piece.blob == name) ≡ true)
+      (λ (piece : Piece). in_memory_now s.limits.page h (added status) whole_build (adds_by status e) piece ≡ true → reached_now s.limits.page h (added status) whole_build (adds_by status e) piece ≡ true → (false ≡ true) × (false ≡ true))
+      (pieces_from s.limits.page next (whole_build ∷ [])) (λ piece at a b. absurd (never piece at a b)) each) in
       let empty : sum_by (λ (piece : Piece). piece.len) (filter (λ (piece : Piece). false) (filter (λ (piece : Piece). false) (pieces_from s.limits.page next (whole_build ∷ [])))) ≡ 0 =
-          ap (sum_by (λ (piece : Piece). piece.len)) (nothing (pieces_from s.limits.page next (whole_build ∷ []))) in
+      ap (sum_by (λ (piece : Piece). piece.len)) (nothing (pieces_from s.limits.page next (whole_build ∷ []))) in
       omega (arith, low, empty)
     where
       nothing : (xs : List Piece) → filter (λ (piece : Piece). false) (filter (λ (piece : Piece). false) xs) ≡ []
@@ -243,20 +242,22 @@ module _ (s : Session) (h : History) (event : Event) (renderer name : ℕ) (kind
     where
       more : (next : ℕ) × (memory s.limits.page (added None) ≤ memory s.limits.page h + bytes_of (filter (in_memory_now s.limits.page h (added None) whole_build (adds_by None e)) (filter (reached_now s.limits.page h (added None) whole_build (adds_by None e)) (pieces_from s.limits.page next (whole_build ∷ [])))))
       more = memory_adds s.limits.page h (added None) whole_build (adds_by None e)
+
       waiting : (plan : Plan) → plan_for s h parts ≡ plan → grants_at_once plan ≡ false → memory s.limits.page (added None) ≤ s.limits.memory
       waiting plan at no_grant =
           let waits : is_granted (added None) whole_build ≡ false =
-              (λ i. option_map_or grants_at_once (plan_is None e i) false || not_yet i) ∙ (λ i. grants_at_once (at i) || false) ∙ (λ i. no_grant i || false) in
+          (λ i. option_map_or grants_at_once (plan_is None e i) false || not_yet i) ∙ (λ i. grants_at_once (at i) || false) ∙ (λ i. no_grant i || false) in
           let none = none_added None e more.0 (λ piece same a b. not_reached None e piece waits same b) in
           omega (arith, more.1, none, fits)
+
       go : (plan : Plan) → plan_for s h parts ≡ plan → memory s.limits.page (added None) ≤ s.limits.memory
       go plans.None at = let own = own_most None e more.0 in let none = none_bytes s h parts at in omega (arith, more.1, own, none, fits)
       go plans.Inline at = let own = own_most None e more.0 in let room = inline_fits s h parts at in omega (arith, more.1, own, room)
       go (plans.Shared n) at = waiting (plans.Shared n) at refl
       go (plans.File n) at =
           let none = none_added None e more.0 (λ piece same a b.
-              let plan : whole_build.plan ≡ Some (plans.File n) = plan_is None e ∙ ap (λ (p : Plan). Some p) at in
-              absurd (reserved_never (page_with (pages h) piece.number) plan (ap (λ (o : Option Build). is_memory (place_by (page_with (pages h) piece.number) o)) (sym (new_found piece same)) ∙ a))) in
+          let plan : whole_build.plan ≡ Some (plans.File n) = plan_is None e ∙ ap (λ (p : Plan). Some p) at in
+          absurd (reserved_never (page_with (pages h) piece.number) plan (ap (λ (o : Option Build). is_memory (place_by (page_with (pages h) piece.number) o)) (sym (new_found piece same)) ∙ a))) in
           omega (arith, more.1, none, fits)
         where
           reserved_never : (found : Option Page) → whole_build.plan ≡ Some (plans.File n) → is_memory (place_by found (Some whole_build)) ≡ true → ⊥

@@ -1,5 +1,5 @@
 -- Fronts of legal transcripts, and one more group.
-use Rattle.std.proofs.Common.{◌≡◌, List, [], ◌∷◌, ◌++◌, refl}
+use Rattle.std.proofs.Common.{List, [], ◌∷◌, ◌++◌}
 use Rattle.answer_text.specs.declared.group.Group.{Group}
 use Rattle.blob_model.specs.Session.{Outside, Session}
 use Rattle.blob_model.specs.History.{History, start, after, history_from}

@@ -1,9 +1,8 @@
 -- Grants end where the head doesn't fit, and jobs start one at a time.
-use Rattle.std.proofs.Common.{◌≡◌, ◌⊎◌, ℕ, ◌==◌, ◌+◌, ◌≤◌, ◌<◌, Bool, true, false, ◌&&◌, ◌||◌, not, List, [], ◌∷◌, ◌++◌, map, length, refl, ap, subst, sym, ◌∙◌, inl, inr, ⊎_elim, arith, Option, Some, None}
+use Rattle.std.proofs.Common.{◌≡◌, ◌⊎◌, ℕ, ◌==◌, ◌+◌, Bool, true, false, ◌&&◌, ◌||◌, not, List, [], ◌∷◌, length, refl, ap, subst, sym, ◌∙◌, inl, inr, ⊎_elim, Option, Some, None}
 use Rattle.std.specs.Prelude.{cond, filter, is_none, nat_lt, nat_le, if◌then◌else◌}
 use Rattle.std.specs.Option.{option_map, option_to_list}
-use Rattle.std.specs.List.{AllByRecursion, list_any}
-use Rattle.std.proofs.lemmas.Bool.{and_parts, or_parts, eqb-true, eq-eqb}
+use Rattle.std.proofs.lemmas.Bool.{or_parts, eqb-true, eq-eqb}
 use Rattle.answer_text.specs.declared.answer.Answer.{Answer}
 use Rattle.answer_text.specs.declared.answer.Answer.TheVariants as answers
 use Rattle.blob_model.specs.Session.{Session}
@@ -22,7 +21,7 @@ use Rattle.blob_model.proofs.Check.{or_cases, or_first, or_second}
 use Rattle.blob_model.proofs.LiveLemmas.{named}
 use Rattle.blob_model.proofs.OrderLemmas.{Distinct, distinct_filter}
 use Rattle.blob_model.proofs.SameLemmas.{filter_same}
-use Rattle.blob_model.proofs.LateLemmas.{is_late, is_still, AllLate, AllStill, memory_still, waits_still}
+use Rattle.blob_model.proofs.LateLemmas.{AllLate, AllStill, memory_still, waits_still}
 
 eqb_turned : (a b : ℕ) → (a == b) ≡ (b == a)
 eqb_turned a b = go (a == b) refl (b == a) refl

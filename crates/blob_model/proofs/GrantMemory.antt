@@ -1,34 +1,33 @@
 -- Grants keep the bytes in memory within the limit, and so does what is settled.
-use Rattle.std.proofs.Common.{◌≡◌, ◌⊎◌, ℕ, ◌+◌, ◌≤◌, ◌<◌, ◌==◌, Bool, true, false, ◌&&◌, ◌||◌, not, List, [], ◌∷◌, ◌++◌, map, reverse, length, refl, ap, subst, sym, ◌∙◌, inl, inr, ⊎_elim, arith, Option, Some, None}
-use Rattle.std.specs.Prelude.{cond, filter, find, is_none, is_some, sum_by, nat_le, if◌then◌else◌}
+use Rattle.std.proofs.Common.{◌≡◌, ◌⊎◌, ℕ, ◌+◌, ◌≤◌, ◌==◌, Bool, true, false, ◌&&◌, ◌||◌, not, List, [], ◌∷◌, map, refl, ap, subst, sym, ◌∙◌, inl, inr, ⊎_elim, arith, Option, Some, None}
+use Rattle.std.specs.Prelude.{cond, filter, is_none, nat_le, if◌then◌else◌}
 use Rattle.std.specs.Option.{option_map_or}
-use Rattle.std.specs.List.{AllByRecursion, list_any}
-use Rattle.std.proofs.lemmas.Bool.{and_parts, or_parts, eqb-true, eq-eqb, leb-true}
-use Rattle.answer_text.specs.declared.answer.Answer.{Answer}
+use Rattle.std.specs.List.{AllByRecursion}
+use Rattle.std.proofs.lemmas.Bool.{and_parts, eqb-true, eq-eqb, leb-true}
 use Rattle.answer_text.specs.declared.answer.Answer.TheVariants as answers
 use Rattle.blob_words.specs.declared.limits.Limits.{Limits}
 use Rattle.blob_model.specs.Session.{Session}
 use Rattle.blob_model.specs.History.{History, said, said_all}
 use Rattle.blob_model.specs.Parts.{own_bytes}
 use Rattle.blob_model.specs.Builds.{Cell, Build, builds, build_in}
-use Rattle.blob_model.specs.Standing.{ended, is_unfinished, is_broken, was_granted, is_granted, grants_at_once}
+use Rattle.blob_model.specs.Standing.{is_broken, was_granted, is_granted, grants_at_once}
 use Rattle.blob_model.specs.Live.{live}
 use Rattle.blob_model.specs.Pieces.{Piece, pieces}
-use Rattle.blob_model.specs.Reached.{reached, live_cells, is_granted_piece, owns_some}
-use Rattle.blob_model.specs.Pages.{Page, pages, page_with, place_in, is_memory}
+use Rattle.blob_model.specs.Reached.{live_cells, is_granted_piece, owns_some}
+use Rattle.blob_model.specs.Pages.{pages, page_with, place_in, is_memory}
 use Rattle.blob_model.specs.Tally.{memory, bytes_of, files}
 use Rattle.blob_model.specs.Waits.{is_waiting, waits}
-use Rattle.blob_model.specs.Settle.{drops, endings, is_due, removals, grants_of, grants, page_jobs, compactions, settle_by, settle}
-use Rattle.blob_model.proofs.Same.{false_true, both}
+use Rattle.blob_model.specs.Settle.{drops, endings, is_due, removals, grants_of, grants, page_jobs, compactions, settle}
+use Rattle.blob_model.proofs.Same.{both}
 use Rattle.blob_model.proofs.Check.{or_cases, or_first, or_second}
-use Rattle.blob_model.proofs.OrderLemmas.{AreOrdered, Distinct, ordered_distinct, all_found}
-use Rattle.blob_model.proofs.SameLemmas.{filter_same, live_alike, builds_all, rooted_said}
+use Rattle.blob_model.proofs.OrderLemmas.{Distinct, ordered_distinct, all_found}
+use Rattle.blob_model.proofs.SameLemmas.{live_alike, builds_all, rooted_said}
 use Rattle.blob_model.proofs.KeptLemmas.{Kept}
 use Rattle.blob_model.proofs.GroupLemmas.{kept_all}
 use Rattle.blob_model.proofs.LateLemmas.{AllLate, ended_late, broken_late, pages_late, memory_still}
 use Rattle.blob_model.proofs.DueLemmas.{removals_late}
 use Rattle.blob_model.proofs.GrantLemmas.{waits_next, page_jobs_still, compactions_still}
-use Rattle.blob_model.proofs.SettledLemmas.{run, settle_run, removals_still}
+use Rattle.blob_model.proofs.SettledLemmas.{settle_run, removals_still}
 use Rattle.blob_model.proofs.ShrinkLemmas.{Shrinks, memory_shrinks}
 use Rattle.blob_model.proofs.StepMemory.{drops_shrink, endings_shrink, sum_either, of_blob, blob_bytes}
 
@@ -54,8 +53,8 @@ granted_or h name None blob at e = inl e
 granted_or h name (Some build) blob at e =
     ⊎_elim (λ (once : option_map_or grants_at_once build.plan false ≡ true). inl (or_first (option_map_or grants_at_once build.plan false) (was_granted h build.name) once))
     (λ (was : ((name == build.name) || was_granted h build.name) ≡ true).
-        ⊎_elim (λ (here : (name == build.name) ≡ true). inr (eq-eqb blob name (sym (at build refl) ∙ sym (eqb-true name build.name here))))
-        (λ (before : was_granted h build.name ≡ true). inl (or_second (option_map_or grants_at_once build.plan false) (was_granted h build.name) before)) (or_cases (name == build.name) (was_granted h build.name) was))
+    ⊎_elim (λ (here : (name == build.name) ≡ true). inr (eq-eqb blob name (sym (at build refl) ∙ sym (eqb-true name build.name here))))
+    (λ (before : was_granted h build.name ≡ true). inl (or_second (option_map_or grants_at_once build.plan false) (was_granted h build.name) before)) (or_cases (name == build.name) (was_granted h build.name) was))
     (or_cases (option_map_or grants_at_once build.plan false) (was_granted (said h (answers.Granted name)) build.name) e)
 
 pub found_name : (list : List Build) (name : ℕ) (build : Build) → build_in list name ≡ Some build → build.name ≡ name
@@ -72,16 +71,16 @@ grant_adds l h name =
     let lives : live l.page (said h (answers.Granted name)) ≡ live l.page h = live_alike l.page h (said h (answers.Granted name)) refl (λ n. refl) (λ n alive. refl) in
     let cells : live_cells l.page (said h (answers.Granted name)) ≡ live_cells l.page h = ap (λ (xs : List Build). map (λ (build : Build). build.cells) (filter (λ (build : Build). not (is_broken h build.name)) xs)) lives in
     let more = sum_either (λ (piece : Piece). piece.len) (λ (piece : Piece). is_memory (place_in h (builds l.page h) piece))
-        (λ (piece : Piece). is_granted_piece (said h (answers.Granted name)) (builds l.page h) piece && owns_some (live_cells l.page h) piece)
-        (λ (piece : Piece). is_memory (place_in h (builds l.page h) piece)) (λ (piece : Piece). is_granted_piece h (builds l.page h) piece && owns_some (live_cells l.page h) piece)
-        (λ (piece : Piece). piece.blob == name) (pieces l.page h)
-        (λ piece at_memory at_reach.
-            let parts = and_parts (is_granted_piece (said h (answers.Granted name)) (builds l.page h) piece) (owns_some (live_cells l.page h) piece) at_reach in
-            ⊎_elim (λ (was : is_granted_piece h (builds l.page h) piece ≡ true). inl (at_memory, both (is_granted_piece h (builds l.page h) piece) (owns_some (live_cells l.page h) piece) was parts.1))
-            (λ (own : (piece.blob == name) ≡ true). inr own)
-            (granted_or h name (build_in (builds l.page h) piece.blob) piece.blob (found_name (builds l.page h) piece.blob) parts.0)) in
+    (λ (piece : Piece). is_granted_piece (said h (answers.Granted name)) (builds l.page h) piece && owns_some (live_cells l.page h) piece)
+    (λ (piece : Piece). is_memory (place_in h (builds l.page h) piece)) (λ (piece : Piece). is_granted_piece h (builds l.page h) piece && owns_some (live_cells l.page h) piece)
+    (λ (piece : Piece). piece.blob == name) (pieces l.page h)
+    (λ piece at_memory at_reach.
+    let parts = and_parts (is_granted_piece (said h (answers.Granted name)) (builds l.page h) piece) (owns_some (live_cells l.page h) piece) at_reach in
+    ⊎_elim (λ (was : is_granted_piece h (builds l.page h) piece ≡ true). inl (at_memory, both (is_granted_piece h (builds l.page h) piece) (owns_some (live_cells l.page h) piece) was parts.1))
+    (λ (own : (piece.blob == name) ≡ true). inr own)
+    (granted_or h name (build_in (builds l.page h) piece.blob) piece.blob (found_name (builds l.page h) piece.blob) parts.0)) in
     subst (λ (xs : List (List Cell)). bytes_of (filter (λ (piece : Piece). is_memory (place_in h (builds l.page h) piece)) (filter (λ (piece : Piece). is_granted_piece (said h (answers.Granted name)) (builds l.page h) piece && owns_some xs piece) (pieces l.page h)))
-        ≤ memory l.page h + of_blob name (pieces l.page h)) (sym cells) more
+    ≤ memory l.page h + of_blob name (pieces l.page h)) (sym cells) more
 
 -- ---- all grants
 
@@ -104,6 +103,7 @@ grants_fit s h (build ∷ more) distinct e fits =
     self =
         (subst (λ (xs : List Build). AllByRecursion (λ (each : Build). build_in (builds s.limits.page h) each.name ≡ Some each) xs) e
         (all_filtered (λ (each : Build). build_in (builds s.limits.page h) each.name ≡ Some each) (is_waiting h) (builds s.limits.page h) (all_found (builds s.limits.page h) (builds s.limits.page h) distinct (λ each member. refl)))).0
+
     go : (b : Bool) → nat_le (memory s.limits.page h + own_bytes build.parts) s.limits.memory ≡ b
         → (memory s.limits.page (said h (answers.Granted build.name)) ≤ s.limits.memory → memory s.limits.page (said_all (said h (answers.Granted build.name)) (grants_of s (said h (answers.Granted build.name)) more)) ≤ s.limits.memory)
         → memory s.limits.page (said_all h (if b then answers.Granted build.name ∷ grants_of s (said h (answers.Granted build.name)) more else [])) ≤ s.limits.memory

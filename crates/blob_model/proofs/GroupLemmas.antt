@@ -1,10 +1,8 @@
 -- Each legal group keeps order, handles and missing segments.
-use Rattle.std.proofs.Common.{◌≡◌, ◌⊎◌, ℕ, ◌==◌, Bool, true, false, ◌&&◌, List, [], ◌∷◌, ◌++◌, refl, ap, subst, sym, ◌∙◌, inl, inr, ⊎_elim, Option, Some, None, ℤ}
-use Rattle.std.specs.Prelude.{is_some, nat_lt}
-use Rattle.std.specs.List.{AllByRecursion}
+use Rattle.std.proofs.Common.{◌≡◌, ℕ, ◌==◌, true, false, ◌&&◌, List, [], ◌∷◌, ◌++◌, refl, ap, subst, sym, ◌∙◌, ⊎_elim, Option, Some, None, ℤ}
+use Rattle.std.specs.Prelude.{nat_lt}
 use Rattle.std.proofs.lemmas.Bool.{and_parts, eqb-true}
 use Rattle.blob_words.specs.declared.number.RendererId.{RendererId}
-use Rattle.blob_words.specs.declared.status.Status.{Status}
 use Rattle.session_script.specs.declared.event.Event.{Event}
 use Rattle.session_script.specs.declared.event.Event.TheVariants as events
 use Rattle.session_script.specs.declared.event.Part.{Part}
@@ -13,11 +11,11 @@ use Rattle.answer_text.specs.declared.answer.Answer.TheVariants as answers
 use Rattle.answer_text.specs.declared.refusal.Refusal.{Refusal}
 use Rattle.answer_text.specs.declared.group.Group.{Group}
 use Rattle.blob_model.specs.Session.{Session}
-use Rattle.blob_model.specs.History.{History, start, heard, refused, said, heard_first, said_all, after, history_from}
-use Rattle.blob_model.specs.Builds.{Build, builds, build_in, slice_parts}
+use Rattle.blob_model.specs.History.{History, start, heard, said, heard_first, said_all, after, history_from}
+use Rattle.blob_model.specs.Builds.{builds, slice_parts}
 use Rattle.blob_model.specs.Handles.{has_handle, count}
-use Rattle.blob_model.specs.Construct.{line_status, build_answer, build_answer_by}
-use Rattle.blob_model.specs.Refusals.{refusal, refusals_of}
+use Rattle.blob_model.specs.Construct.{line_status, build_answer}
+use Rattle.blob_model.specs.Refusals.{refusal}
 use Rattle.blob_model.specs.Settle.{settle}
 use Rattle.blob_model.specs.Own.{IsOwn, IsOwnBy, IsAccepted}
 use Rattle.blob_model.specs.Legal.{left_files, IsLegalGroup, IsLegalFrom}

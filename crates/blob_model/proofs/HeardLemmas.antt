@@ -1,44 +1,39 @@
 -- An accepted line of a legal transcript keeps order, handles and the segments that waiting blobs miss.
-use Rattle.std.proofs.Common.{◌≡◌, ◌≢◌, ◌⊎◌, ℕ, zero, suc, ◌+◌, ◌-◌, ◌*◌, ◌/◌, ◌%◌, ◌≤◌, ◌<◌, ◌==◌, Bool, true, false, ◌&&◌, ◌||◌, not, List, [], ◌∷◌, ◌++◌, length, map, min, refl, ap, subst, sym, ◌∙◌, inl, inr, ⊎_elim, arith, Option, Some, None, length-append}
-use Rattle.std.specs.Prelude.{cond, find, filter, is_some, is_none, sum, sum_by, nat_lt, nat_le, if◌then◌else◌}
+use Rattle.std.proofs.Common.{◌≡◌, ℕ, ◌+◌, ◌≤◌, ◌<◌, ◌==◌, Bool, true, false, ◌&&◌, ◌||◌, not, List, [], ◌∷◌, ◌++◌, length, refl, ap, subst, sym, ◌∙◌, ⊎_elim, arith, Option, Some, None, length-append}
+use Rattle.std.specs.Prelude.{cond, filter, is_some, sum, nat_lt, if◌then◌else◌}
 use Rattle.std.specs.Int.{div_ceil}
-use Rattle.std.specs.Option.{option_map_or}
 use Rattle.std.specs.List.{AllByRecursion, list_any, range_with_len}
-use Rattle.std.proofs.lemmas.Bool.{and_parts, or_parts, eqb-true, eq-eqb, ltb-true, lt-ltb}
+use Rattle.std.proofs.lemmas.Bool.{or_parts, eqb-true, eq-eqb}
 use Rattle.std.proofs.lemmas.List.FromFn.{length-map-range_with_len, length-range_with_len}
 use Rattle.std.proofs.lemmas.List.Sums.{sum_by-append, sum_by-cons}
-use Rattle.blob_words.specs.declared.limits.Limits.{Limits}
-use Rattle.blob_words.specs.declared.number.RendererId.{RendererId}
 use Rattle.blob_words.specs.declared.plan.Plan.{Plan}
 use Rattle.blob_words.specs.declared.plan.Plan.TheVariants as plans
 use Rattle.blob_words.specs.declared.status.Status.{Status}
 use Rattle.session_script.specs.declared.event.Event.{Event}
-use Rattle.session_script.specs.declared.event.Event.TheVariants as events
 use Rattle.session_script.specs.declared.event.Part.{Part}
 use Rattle.session_script.specs.declared.event.Part.TheVariants.{Embedded, Asked, FileRange, BlobRange, HandleRange}
 use Rattle.answer_text.specs.declared.answer.Answer.{Answer}
-use Rattle.answer_text.specs.declared.answer.Answer.TheVariants as answers
 use Rattle.answer_text.specs.declared.refusal.Refusal.{Refusal}
 use Rattle.transport_plan.specs.declared.input.PlanInput.{PlanInput}
 use Rattle.transport_plan.specs.Plan.{plan_of, file_plan, shared_plan, has_file_room, fits_inline}
 use Rattle.transport_plan.specs.Plan.{own_bytes as input_bytes}
 use Rattle.blob_model.specs.Session.{Session}
-use Rattle.blob_model.specs.History.{History, start, heard, refused, said}
-use Rattle.blob_model.specs.Parts.{sources, own_length, own_lengths, own_bytes, embedded_bytes, embedded}
-use Rattle.blob_model.specs.Builds.{Build, builds, built, build_in, plan_told, slice_parts}
-use Rattle.blob_model.specs.Standing.{ended, is_unfinished, was_granted, is_granted, grants_at_once}
+use Rattle.blob_model.specs.History.{History, heard}
+use Rattle.blob_model.specs.Parts.{sources, own_lengths, own_bytes, embedded}
+use Rattle.blob_model.specs.Builds.{Build, builds, built, build_in, plan_told}
+use Rattle.blob_model.specs.Standing.{is_unfinished}
 use Rattle.blob_model.specs.Transport.{Arrival, arrivals, has_come, missing, has_all, spans}
-use Rattle.blob_model.specs.Handles.{has_handle, count}
+use Rattle.blob_model.specs.Handles.{has_handle}
 use Rattle.blob_model.specs.Live.{has_source}
-use Rattle.blob_model.specs.Waits.{is_shared, is_waiting}
+use Rattle.blob_model.specs.Waits.{is_shared}
 use Rattle.blob_model.specs.Construct.{is_lost_source, line_tests, line_status, build_answer, build_answer_by, plan_for, plan_input}
-use Rattle.blob_model.specs.Refusals.{refusal, refusals_of, is_sending, segment_refusals}
+use Rattle.blob_model.specs.Refusals.{refusal, refusals_of}
 use Rattle.blob_model.proofs.Same.{false_true}
-use Rattle.blob_model.proofs.Check.{or_cases, or_first, or_second}
+use Rattle.blob_model.proofs.Check.{or_cases}
 use Rattle.blob_model.proofs.CellLemmas.{none_applies}
-use Rattle.blob_model.proofs.LiveLemmas.{named, any_append_first, any_append_second}
-use Rattle.blob_model.proofs.OrderLemmas.{AreOrdered, ordered_more, ordered_distinct, all_found}
-use Rattle.blob_model.proofs.KeptLemmas.{Kept, for_each, waiting_heard, unfinished_heard}
+use Rattle.blob_model.proofs.LiveLemmas.{named}
+use Rattle.blob_model.proofs.OrderLemmas.{AreOrdered, ordered_more}
+use Rattle.blob_model.proofs.KeptLemmas.{Kept}
 
 -- ---- a shared plan has a segment
 

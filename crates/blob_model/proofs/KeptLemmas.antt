@@ -1,39 +1,26 @@
 -- What every line of a legal transcript keeps: order of blobs, handles on built blobs alone, and that a blob that waits misses a segment.
-use Rattle.std.proofs.Common.{◌≡◌, ◌≢◌, ◌⊎◌, ℕ, zero, suc, ◌+◌, ◌-◌, ◌≤◌, ◌<◌, ◌==◌, Bool, true, false, ◌&&◌, ◌||◌, not, List, [], ◌∷◌, ◌++◌, length, map, refl, ap, subst, sym, ◌∙◌, inl, inr, ⊎_elim, arith, Option, Some, None, length-append}
-use Rattle.std.specs.Prelude.{cond, find, filter, is_some, is_none, sum, nat_lt, nat_le, if◌then◌else◌}
-use Rattle.std.specs.Int.{div_ceil}
-use Rattle.std.specs.Option.{option_map_or}
-use Rattle.std.specs.List.{AllByRecursion, list_any, range_with_len}
-use Rattle.std.proofs.lemmas.Bool.{and_parts, or_parts, eqb-true, eq-eqb, ltb-true, lt-ltb}
-use Rattle.std.proofs.lemmas.List.FromFn.{length-map-range_with_len, length-range_with_len}
-use Rattle.blob_words.specs.declared.limits.Limits.{Limits}
+use Rattle.std.proofs.Common.{◌≡◌, ℕ, ◌==◌, Bool, true, false, ◌&&◌, not, List, [], ◌∷◌, refl, subst, sym, ◌∙◌, Option, Some}
+use Rattle.std.specs.Prelude.{cond, is_some, is_none}
+use Rattle.std.specs.List.{AllByRecursion}
+use Rattle.std.proofs.lemmas.Bool.{and_parts}
 use Rattle.blob_words.specs.declared.plan.Plan.{Plan}
-use Rattle.blob_words.specs.declared.plan.Plan.TheVariants as plans
 use Rattle.blob_words.specs.declared.status.Status.{Status}
 use Rattle.blob_words.specs.declared.status.Status.TheVariants as statuses
 use Rattle.session_script.specs.declared.event.Event.{Event}
-use Rattle.session_script.specs.declared.event.Event.TheVariants as events
-use Rattle.session_script.specs.declared.event.Part.{Part}
-use Rattle.session_script.specs.declared.event.Part.TheVariants.{Embedded, Asked, FileRange, BlobRange, HandleRange}
 use Rattle.answer_text.specs.declared.answer.Answer.{Answer}
 use Rattle.answer_text.specs.declared.answer.Answer.TheVariants as answers
 use Rattle.answer_text.specs.declared.refusal.Refusal.{Refusal}
 use Rattle.blob_model.specs.Session.{Session}
-use Rattle.blob_model.specs.History.{History, start, heard, refused, said}
-use Rattle.blob_model.specs.Parts.{sources, own_length, own_lengths, own_bytes, embedded_bytes, embedded}
-use Rattle.blob_model.specs.Builds.{Build, builds, built, build_in, plan_told, slice_parts}
-use Rattle.blob_model.specs.Standing.{ended_after, ended, is_unfinished, was_granted_after, was_granted, is_granted, grants_at_once}
-use Rattle.blob_model.specs.Transport.{Arrival, arrivals, has_come, missing, has_all, spans}
-use Rattle.blob_model.specs.Handles.{has_handle, count}
-use Rattle.blob_model.specs.Live.{has_source}
+use Rattle.blob_model.specs.History.{History, heard, refused, said}
+use Rattle.blob_model.specs.Builds.{Build, builds}
+use Rattle.blob_model.specs.Standing.{ended_after, ended, is_unfinished, was_granted_after, was_granted}
+use Rattle.blob_model.specs.Transport.{arrivals, has_all}
+use Rattle.blob_model.specs.Handles.{has_handle}
 use Rattle.blob_model.specs.Waits.{is_shared, is_waiting}
-use Rattle.blob_model.specs.Construct.{is_lost_source, line_tests, line_status, build_answer, build_answer_by, plan_for}
-use Rattle.blob_model.specs.Refusals.{refusal, refusals_of, is_sending}
 use Rattle.blob_model.proofs.Same.{false_true}
-use Rattle.blob_model.proofs.Check.{or_cases, or_first, or_second}
-use Rattle.blob_model.proofs.CellLemmas.{none_applies}
-use Rattle.blob_model.proofs.LiveLemmas.{named, any_append_first, any_append_second}
-use Rattle.blob_model.proofs.OrderLemmas.{AreOrdered, ordered_more, ordered_distinct, all_found}
+use Rattle.blob_model.proofs.Check.{or_second}
+use Rattle.blob_model.proofs.LiveLemmas.{named}
+use Rattle.blob_model.proofs.OrderLemmas.{AreOrdered}
 
 pub record Kept (s : Session) (h : History) : Type 0 where
   pub ordered : AreOrdered [] (builds s.limits.page h)

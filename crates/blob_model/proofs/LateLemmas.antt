@@ -1,26 +1,24 @@
 -- What removals, grants and jobs leave alone.
-use Rattle.std.proofs.Common.{◌≡◌, ◌⊎◌, ℕ, ◌==◌, ◌+◌, ◌≤◌, ◌<◌, Bool, true, false, ◌&&◌, ◌||◌, not, List, [], ◌∷◌, ◌++◌, map, reverse, length, refl, ap, subst, sym, ◌∙◌, inl, inr, ⊎_elim, arith, Option, Some, None}
-use Rattle.std.specs.Prelude.{cond, filter, is_none, find, nat_lt, sum_by, if◌then◌else◌}
-use Rattle.std.specs.Option.{option_map, option_map_or, option_to_list}
+use Rattle.std.proofs.Common.{◌≡◌, ℕ, ◌==◌, ◌≤◌, Bool, true, false, ◌&&◌, ◌||◌, not, List, [], ◌∷◌, ◌++◌, map, reverse, length, refl, ap, ◌∙◌, arith, Option, Some, None}
+use Rattle.std.specs.Prelude.{cond, filter, is_none}
+use Rattle.std.specs.Option.{option_map_or}
 use Rattle.std.specs.List.{AllByRecursion, list_any}
-use Rattle.std.proofs.lemmas.Bool.{and_parts, or_parts, ltb-true, lt-ltb}
 use Rattle.answer_text.specs.declared.answer.Answer.{Answer}
 use Rattle.answer_text.specs.declared.answer.Answer.TheVariants as answers
 use Rattle.blob_words.specs.declared.status.Status.{Status}
 use Rattle.blob_model.specs.Session.{Session}
 use Rattle.blob_model.specs.History.{History, said, said_all}
-use Rattle.blob_model.specs.Builds.{Cell, Build, builds, build_in}
-use Rattle.blob_model.specs.Standing.{ended, is_unfinished, is_broken, is_broken_status, is_done, is_done_status, was_granted, is_granted, grants_at_once}
-use Rattle.blob_model.specs.Live.{is_rooted, live, is_live}
+use Rattle.blob_model.specs.Builds.{Build, builds, build_in}
+use Rattle.blob_model.specs.Standing.{ended, is_broken, is_broken_status, is_done, is_done_status, was_granted, is_granted, grants_at_once}
+use Rattle.blob_model.specs.Live.{live}
 use Rattle.blob_model.specs.Pieces.{Piece, pieces, pieces_from}
 use Rattle.blob_model.specs.Reached.{reached, reached_of, live_cells, is_granted_piece, owns_some}
-use Rattle.blob_model.specs.Pages.{Page, Place, pages, place_in, place_by, page_with, is_memory, is_page}
-use Rattle.blob_model.specs.Tally.{in_memory_of, in_page_of, bytes_of, memory_of, memory, files_of, files}
+use Rattle.blob_model.specs.Pages.{pages, place_by, page_with, is_memory}
+use Rattle.blob_model.specs.Tally.{bytes_of, memory}
 use Rattle.blob_model.specs.Waits.{is_waiting, is_shared, waits}
-use Rattle.blob_model.specs.Settle.{drops, removal, removals, is_due, page_no, grants_of, grants, page_job_of, page_jobs, may_start, compaction, compactions, movable}
-use Rattle.blob_model.specs.Victims.{chosen}
+use Rattle.blob_model.specs.Settle.{drops}
 use Rattle.blob_model.proofs.Same.{false_true}
-use Rattle.blob_model.proofs.SameLemmas.{filter_same, any_same, kept_by_kind, kept_by_all, live_alike, rooted_said, builds_all, drops_test, dropping}
+use Rattle.blob_model.proofs.SameLemmas.{filter_same, kept_by_kind, live_alike, rooted_said, builds_all, drops_test, dropping}
 use Rattle.blob_model.proofs.EndingLemmas.{AllQuiet, is_quiet}
 
 -- removals, grants and starts of jobs

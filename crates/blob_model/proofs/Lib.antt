@@ -33,3 +33,4 @@ pub mod NewMemory
 pub mod BuildMemory
 pub mod FitLemmas
 pub mod BoundLemmas
+pub mod LimitLemmas

@@ -1,9 +1,9 @@
 -- Each accepted line of a legal transcript keeps order, handles and missing segments.
-use Rattle.std.proofs.Common.{◌≡◌, ◌⊎◌, ℕ, zero, suc, ◌+◌, ◌-◌, ◌≤◌, ◌<◌, ◌==◌, Bool, true, false, ◌&&◌, ◌||◌, not, List, [], ◌∷◌, ◌++◌, length, refl, ap, subst, sym, ◌∙◌, inl, inr, ⊎_elim, arith, Option, Some, None}
-use Rattle.std.specs.Prelude.{cond, filter, is_some, is_none, nat_lt}
+use Rattle.std.proofs.Common.{◌≡◌, ◌⊎◌, ℕ, ◌+◌, ◌-◌, ◌<◌, ◌==◌, Bool, true, false, ◌&&◌, ◌||◌, not, List, [], ◌∷◌, ◌++◌, length, refl, ap, subst, sym, ◌∙◌, inl, inr, ⊎_elim, arith, Option, Some, None}
+use Rattle.std.specs.Prelude.{cond, filter, is_some, nat_lt}
 use Rattle.std.specs.Option.{option_map_or}
 use Rattle.std.specs.List.{AllByRecursion, list_any, range_with_len}
-use Rattle.std.proofs.lemmas.Bool.{and_parts, or_parts, eqb-true, eq-eqb, ltb-true, lt-ltb}
+use Rattle.std.proofs.lemmas.Bool.{and_parts, eqb-true, ltb-true, lt-ltb}
 use Rattle.blob_words.specs.declared.number.RendererId.{RendererId}
 use Rattle.blob_words.specs.declared.plan.Plan.{Plan}
 use Rattle.blob_words.specs.declared.plan.Plan.TheVariants as plans
@@ -11,26 +11,21 @@ use Rattle.session_script.specs.declared.event.Event.{Event}
 use Rattle.session_script.specs.declared.event.Event.TheVariants as events
 use Rattle.session_script.specs.declared.event.Part.{Part}
 use Rattle.answer_text.specs.declared.answer.Answer.{Answer}
-use Rattle.answer_text.specs.declared.answer.Answer.TheVariants as answers
 use Rattle.answer_text.specs.declared.refusal.Refusal.{Refusal}
-use Rattle.answer_text.specs.declared.group.Group.{Group}
 use Rattle.blob_model.specs.Session.{Session}
-use Rattle.blob_model.specs.History.{History, start, heard, refused, said, heard_first, said_all, after, history_from}
-use Rattle.blob_model.specs.Builds.{Build, builds, build_in, slice_parts}
+use Rattle.blob_model.specs.History.{History, heard}
+use Rattle.blob_model.specs.Builds.{Build, builds, build_in}
 use Rattle.blob_model.specs.Standing.{is_unfinished, was_granted, is_granted, grants_at_once}
 use Rattle.blob_model.specs.Transport.{Arrival, arrivals, has_come, missing, has_all, spans}
 use Rattle.blob_model.specs.Handles.{has_handle, count}
 use Rattle.blob_model.specs.Waits.{is_shared, is_waiting}
 use Rattle.blob_model.specs.Construct.{build_answer}
-use Rattle.blob_model.specs.Refusals.{refusal, refusals_of, is_sending, segment_refusals}
-use Rattle.blob_model.specs.Settle.{settle}
-use Rattle.blob_model.specs.Own.{IsOwn, IsOwnBy, IsAccepted}
-use Rattle.blob_model.specs.Legal.{left_files, IsLegalGroup, IsLegalFrom}
+use Rattle.blob_model.specs.Refusals.{refusal, is_sending, segment_refusals}
 use Rattle.blob_model.proofs.Same.{false_true}
-use Rattle.blob_model.proofs.Check.{or_cases, or_first, or_second}
+use Rattle.blob_model.proofs.Check.{or_first}
 use Rattle.blob_model.proofs.LiveLemmas.{named, any_append_first, any_append_second}
 use Rattle.blob_model.proofs.OrderLemmas.{AreOrdered, ordered_distinct, all_found}
-use Rattle.blob_model.proofs.KeptLemmas.{Kept, for_each, waiting_heard, unfinished_heard, kept_said, kept_refused}
+use Rattle.blob_model.proofs.KeptLemmas.{Kept, for_each, waiting_heard, unfinished_heard}
 use Rattle.blob_model.proofs.HeardLemmas.{new_build, ordered_grows, all_more, new_broke, new_lacking, tests_fail, found_named, not_false}
 
 contrary : (b c : Bool) → c ≡ false → (b ≡ true → c ≡ true) → b ≡ false

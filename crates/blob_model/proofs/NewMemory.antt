@@ -1,27 +1,20 @@
 -- A line that builds a blob keeps the bytes in memory within the limit.
-use Rattle.std.proofs.Common.{◌≡◌, ◌⊎◌, ℕ, zero, suc, ◌+◌, ◌-◌, ◌≤◌, ◌<◌, ◌==◌, Bool, true, false, ◌&&◌, ◌||◌, not, List, [], ◌∷◌, ◌++◌, map, take, drop, reverse, length, refl, ap, subst, sym, ◌∙◌, inl, inr, ⊎_elim, arith, Option, Some, None}
-use Rattle.std.specs.Prelude.{cond, filter, find, is_none, is_some, sum_by, nat_lt}
-use Rattle.std.specs.Option.{option_map_or}
-use Rattle.std.specs.List.{AllByRecursion, list_any, range_with_len}
+use Rattle.std.proofs.Common.{◌≡◌, ◌⊎◌, ℕ, zero, suc, ◌+◌, ◌==◌, Bool, true, false, ◌&&◌, ◌||◌, List, [], ◌∷◌, map, take, drop, length, refl, subst, sym, ◌∙◌, inl, inr, ⊎_elim, Some}
+use Rattle.std.specs.Prelude.{cond}
+use Rattle.std.specs.List.{list_any, range_with_len}
 use Rattle.std.proofs.lemmas.Bool.{and_parts, or_parts, eqb-true, eq-eqb}
-use Rattle.std.proofs.lemmas.List.{reverse-append}
-use Rattle.std.proofs.lemmas.List.Sums.{sum_by-cons, sum_by-append}
-use Rattle.blob_words.specs.declared.plan.Plan.{Plan}
 use Rattle.session_script.specs.declared.event.Part.{Part}
 use Rattle.session_script.specs.declared.event.Part.TheVariants.{Embedded, Asked, FileRange, BlobRange, HandleRange}
-use Rattle.blob_model.specs.Session.{Session}
 use Rattle.blob_model.specs.History.{History}
 use Rattle.blob_model.specs.Parts.{sources}
 use Rattle.blob_model.specs.Builds.{Cell, sent, filed, lent, Build, build_in, cells_in, cells_of, own_cells, file_cells, handle_cells}
-use Rattle.blob_model.specs.Standing.{is_unfinished, is_broken}
+use Rattle.blob_model.specs.Standing.{is_unfinished}
 use Rattle.blob_model.specs.Live.{is_rooted, has_source, is_needed, live_from}
-use Rattle.blob_model.specs.Pieces.{Piece, owns, numbered, pieces_from, spans_of}
-use Rattle.blob_model.specs.Reached.{some_passes}
+use Rattle.blob_model.specs.Pieces.{Piece, owns}
 use Rattle.blob_model.proofs.Same.{false_true, both}
 use Rattle.blob_model.proofs.Check.{or_cases, or_first, or_second}
 use Rattle.blob_model.proofs.LiveLemmas.{named}
 use Rattle.blob_model.proofs.RootLemmas.{any_parts, any_up}
-use Rattle.blob_model.proofs.ShrinkLemmas.{holds_piece, some_any}
 
 -- ---- liveness with one more blob
 
@@ -43,25 +36,29 @@ live_plus page h g x (build ∷ earlier) later' later roots begun needs fresh su
     rooted e =
         ⊎_elim (λ (root : is_rooted page h build.name ≡ true). root)
         (λ (same : (build.name == x.name) ≡ true). absurd (false_true (sym (or_parts (build.name == x.name) (named x.name earlier) fresh).0 ∙ same))) (roots build.name e)
+
     up : (is_rooted page g build.name || is_needed g later' build.name) ≡ true → (is_rooted page h build.name || is_needed h later build.name) ≡ true
     up e =
         ⊎_elim (λ (root : is_rooted page g build.name ≡ true). or_first (is_rooted page h build.name) (is_needed h later build.name) (rooted root))
         (λ (needed : is_needed g later' build.name ≡ true).
-            ⊎_elim
-            (λ (by_x : (is_unfinished g x.name && has_source x build.name) ≡ true). or_first (is_rooted page h build.name) (is_needed h later build.name) (needs build.name (and_parts (is_unfinished g x.name) (has_source x build.name) by_x).0 (and_parts (is_unfinished g x.name) (has_source x build.name) by_x).1))
-            (λ (by_later : list_any (λ (each : Build). is_unfinished g each.name && has_source each build.name) later ≡ true).
-                or_second (is_rooted page h build.name) (is_needed h later build.name)
-                (any_up (λ (each : Build). is_unfinished g each.name && has_source each build.name) (λ (each : Build). is_unfinished h each.name && has_source each build.name) later
-                (λ each f. let parts = and_parts (is_unfinished g each.name) (has_source each build.name) f in both (is_unfinished h each.name) (has_source each build.name) (begun each.name parts.0) parts.1) by_later))
-            (sub (λ (each : Build). is_unfinished g each.name && has_source each build.name) needed))
+        ⊎_elim
+        (λ (by_x : (is_unfinished g x.name && has_source x build.name) ≡ true). or_first (is_rooted page h build.name) (is_needed h later build.name) (needs build.name (and_parts (is_unfinished g x.name) (has_source x build.name) by_x).0 (and_parts (is_unfinished g x.name) (has_source x build.name) by_x).1))
+        (λ (by_later : list_any (λ (each : Build). is_unfinished g each.name && has_source each build.name) later ≡ true).
+        or_second (is_rooted page h build.name) (is_needed h later build.name)
+        (any_up (λ (each : Build). is_unfinished g each.name && has_source each build.name) (λ (each : Build). is_unfinished h each.name && has_source each build.name) later
+        (λ each f. let parts = and_parts (is_unfinished g each.name) (has_source each build.name) f in both (is_unfinished h each.name) (has_source each build.name) (begun each.name parts.0) parts.1) by_later))
+        (sub (λ (each : Build). is_unfinished g each.name && has_source each build.name) needed))
         (or_cases (is_rooted page g build.name) (is_needed g later' build.name) e)
+
     both_more : SubOr x (build ∷ later') (build ∷ later)
     both_more test e =
         ⊎_elim (λ (here : test build ≡ true). inr (or_first (test build) (list_any test later) here))
         (λ (more : list_any test later' ≡ true). ⊎_elim (λ (at_x : test x ≡ true). inl at_x) (λ (old : list_any test later ≡ true). inr (or_second (test build) (list_any test later) old)) (sub test more))
         (or_cases (test build) (list_any test later') e)
+
     one_more : SubOr x later' (build ∷ later)
     one_more test e = ⊎_elim (λ (at_x : test x ≡ true). inl at_x) (λ (old : list_any test later ≡ true). inr (or_second (test build) (list_any test later) old)) (sub test e)
+
     go : (a b : Bool) → (a ≡ true → b ≡ true) → ((xs ys : List Build) → SubOr x xs ys → SubOr x (live_from page g earlier xs) (live_from page h earlier ys))
         → SubOr x (live_from page g earlier (cond a (build ∷ later') later')) (live_from page h earlier (cond b (build ∷ later) later))
     go true false f rest = absurd (false_true (f refl))
@@ -84,12 +81,12 @@ rooted_any page h name test [] later rooted e = absurd (false_true e)
 rooted_any page h name test (build ∷ earlier) later rooted e =
     ⊎_elim
     (λ (here : ((build.name == name) && test build) ≡ true).
-        let parts = and_parts (build.name == name) (test build) here in
-        let same : build.name ≡ name = eqb-true build.name name parts.0 in
-        let root : (is_rooted page h build.name || is_needed h later build.name) ≡ true = or_first (is_rooted page h build.name) (is_needed h later build.name) (subst (λ (n : ℕ). is_rooted page h n ≡ true) (sym same) rooted) in
-        subst (λ (b : Bool). list_any test (live_from page h earlier (cond b (build ∷ later) later)) ≡ true) (sym root) (any_live page h test earlier (build ∷ later) (or_first (test build) (list_any test later) parts.1)))
+    let parts = and_parts (build.name == name) (test build) here in
+    let same : build.name ≡ name = eqb-true build.name name parts.0 in
+    let root : (is_rooted page h build.name || is_needed h later build.name) ≡ true = or_first (is_rooted page h build.name) (is_needed h later build.name) (subst (λ (n : ℕ). is_rooted page h n ≡ true) (sym same) rooted) in
+    subst (λ (b : Bool). list_any test (live_from page h earlier (cond b (build ∷ later) later)) ≡ true) (sym root) (any_live page h test earlier (build ∷ later) (or_first (test build) (list_any test later) parts.1)))
     (λ (more : list_any (λ (each : Build). (each.name == name) && test each) earlier ≡ true).
-        rooted_any page h name test earlier (cond (is_rooted page h build.name || is_needed h later build.name) (build ∷ later) later) rooted more)
+    rooted_any page h name test earlier (cond (is_rooted page h build.name || is_needed h later build.name) (build ∷ later) later) rooted more)
     (or_cases ((build.name == name) && test build) (list_any (λ (each : Build). (each.name == name) && test each) earlier) e)
 
 -- ---- cells of a new blob are its own or those of its sources
@@ -141,10 +138,10 @@ owns_source list name from piece (FileRange file off len stamp ∷ parts) other 
 owns_source list name from piece (BlobRange b off len ∷ parts) other e =
     ⊎_elim
     (λ (own : list_any (owns piece) (take len (drop off (cells_in list b))) ≡ true).
-        (b, or_first (b == b) (list_any (λ (each : ℕ). each == b) (sources parts)) (eq-eqb b b refl), any_dropped (owns piece) off (cells_in list b) (any_taken (owns piece) len (drop off (cells_in list b)) own)))
+    (b, or_first (b == b) (list_any (λ (each : ℕ). each == b) (sources parts)) (eq-eqb b b refl), any_dropped (owns piece) off (cells_in list b) (any_taken (owns piece) len (drop off (cells_in list b)) own)))
     (λ (more : list_any (owns piece) (cells_of list name from parts) ≡ true).
-        let rest = owns_source list name from piece parts other more in
-        (rest.0, or_second (b == rest.0) (list_any (λ (each : ℕ). each == rest.0) (sources parts)) rest.1, rest.2))
+    let rest = owns_source list name from piece parts other more in
+    (rest.0, or_second (b == rest.0) (list_any (λ (each : ℕ). each == rest.0) (sources parts)) rest.1, rest.2))
     (any_parts (owns piece) (take len (drop off (cells_in list b))) (cells_of list name from parts) e)
 owns_source list name from piece (HandleRange k off len ∷ parts) other e =
     ⊎_elim (λ (own : list_any (owns piece) (handle_cells k off len) ≡ true). absurd (false_true (sym (not_handle piece k (range_with_len off len)) ∙ own)))

@@ -1,13 +1,12 @@
 -- Blobs in order of build: names differ, and sources are older.
-use Rattle.std.proofs.Common.{◌≡◌, ◌⊎◌, ℕ, ◌==◌, Bool, true, false, ◌&&◌, ◌||◌, not, List, [], ◌∷◌, ◌++◌, refl, ap, subst, sym, ◌∙◌, inl, inr, ⊎_elim, Option, Some, None, append_assoc, append-nil}
-use Rattle.std.specs.Prelude.{cond, find, filter, is_some}
-use Rattle.std.specs.List.{AllByRecursion, list_any}
-use Rattle.std.proofs.lemmas.Bool.{and_parts, or_parts, eqb-true, eq-eqb}
-use Rattle.std.proofs.lemmas.List.Folds.{list_any-append}
+use Rattle.std.proofs.Common.{◌≡◌, ℕ, ◌==◌, Bool, true, false, ◌||◌, List, [], ◌∷◌, ◌++◌, refl, subst, sym, ◌∙◌, Some, append_assoc, append-nil}
+use Rattle.std.specs.Prelude.{cond, filter, is_some}
+use Rattle.std.specs.List.{AllByRecursion}
+use Rattle.std.proofs.lemmas.Bool.{or_parts, eqb-true, eq-eqb}
 use Rattle.blob_model.specs.Builds.{Build, build_in}
 use Rattle.blob_model.specs.Live.{has_source}
 use Rattle.blob_model.proofs.Same.{false_true}
-use Rattle.blob_model.proofs.Check.{or_cases, or_first, or_second}
+use Rattle.blob_model.proofs.Check.{or_first, or_second}
 use Rattle.blob_model.proofs.LiveLemmas.{named, any_append_first, any_append_second}
 
 -- each blob's name is new, and it takes bytes from older ones, where it has a plan

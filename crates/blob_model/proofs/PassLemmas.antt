@@ -1,27 +1,25 @@
 -- The pass over the blobs leaves no ending owed, also after what is settled behind it.
-use Rattle.std.proofs.Common.{◌≡◌, ◌⊎◌, ℕ, ◌==◌, Bool, true, false, ◌&&◌, ◌||◌, not, List, [], ◌∷◌, ◌++◌, map, length, refl, ap, subst, sym, ◌∙◌, inl, inr, ⊎_elim, Option, Some, None}
+use Rattle.std.proofs.Common.{◌≡◌, ◌⊎◌, ℕ, ◌==◌, Bool, true, false, ◌||◌, List, [], ◌∷◌, ◌++◌, map, refl, ap, subst, sym, ◌∙◌, inl, inr, Option, Some, None}
 use Rattle.std.specs.Prelude.{cond, filter, is_none, is_some, if◌then◌else◌}
 use Rattle.std.specs.Option.{option_map_or, option_to_list}
-use Rattle.std.specs.List.{AllByRecursion, list_any}
-use Rattle.std.proofs.lemmas.Bool.{and_parts, or_parts, eqb-true, eq-eqb}
+use Rattle.std.specs.List.{AllByRecursion}
+use Rattle.std.proofs.lemmas.Bool.{and_parts, or_parts, eqb-true}
 use Rattle.answer_text.specs.declared.answer.Answer.{Answer}
-use Rattle.answer_text.specs.declared.answer.Answer.TheVariants as answers
 use Rattle.blob_words.specs.declared.status.Status.{Status}
 use Rattle.blob_words.specs.declared.status.Status.TheVariants as statuses
 use Rattle.blob_model.specs.Session.{Session}
 use Rattle.blob_model.specs.History.{History, said, said_all}
-use Rattle.blob_model.specs.Builds.{Build, builds}
+use Rattle.blob_model.specs.Builds.{Build}
 use Rattle.blob_model.specs.Standing.{ended, is_unfinished, is_broken, is_broken_status, is_done, is_done_status, was_granted, is_granted, grants_at_once}
 use Rattle.blob_model.specs.Transport.{has_all}
 use Rattle.blob_model.specs.Live.{has_source}
-use Rattle.blob_model.specs.Settle.{ending, ending_answers, endings_of, endings}
+use Rattle.blob_model.specs.Settle.{ending, ending_answers, endings_of}
 use Rattle.blob_model.proofs.Same.{false_true}
-use Rattle.blob_model.proofs.Check.{or_cases, or_first, or_second}
 use Rattle.blob_model.proofs.LiveLemmas.{named}
 use Rattle.blob_model.proofs.OrderLemmas.{AreOrdered, not_later}
 use Rattle.blob_model.proofs.KeptLemmas.{for_each}
 use Rattle.blob_model.proofs.SameLemmas.{said_append, unfinished_all, drops_test, dropping}
-use Rattle.blob_model.proofs.EndingLemmas.{AllQuiet, is_quiet, has_all_said, ending_later, ending_ends, ending_only, ending_quiet, ending_grants, one_by}
+use Rattle.blob_model.proofs.EndingLemmas.{AllQuiet, has_all_said, ending_later, ending_ends, ending_only, ending_quiet, ending_grants, one_by}
 
 -- ---- what the pass leaves alone
 

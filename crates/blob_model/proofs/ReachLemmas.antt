@@ -1,6 +1,6 @@
 -- Reached pieces are granted; what a settled history says of thin page files.
-use Rattle.std.proofs.Common.{◌≡◌, ◌≢◌, ◌⊎◌, ℕ, zero, suc, ◌+◌, ◌-◌, ◌*◌, ◌≤◌, ◌<◌, Bool, true, false, ◌&&◌, not, List, [], ◌∷◌, ◌++◌, length, filter, refl, ap, subst, sym, ◌∙◌, inl, inr, arith, Option, Some, None}
-use Rattle.std.specs.Prelude.{cond, find, sum_by, nat_lt, nat_le, is_none, if◌then◌else◌}
+use Rattle.std.proofs.Common.{◌≡◌, ℕ, ◌+◌, ◌-◌, ◌*◌, ◌≤◌, ◌<◌, Bool, true, false, ◌&&◌, List, [], ◌∷◌, ◌++◌, filter, refl, subst, arith, Option, Some, None}
+use Rattle.std.specs.Prelude.{cond, find, sum_by, nat_le}
 use Rattle.std.specs.Option.{option_map, option_to_list}
 use Rattle.std.specs.List.{AllByRecursion}
 use Rattle.std.proofs.lemmas.Bool.{and_parts, leb-false, ltb-false}
@@ -8,13 +8,13 @@ use Rattle.std.proofs.lemmas.List.Sums.{sum_by-cons}
 use Rattle.answer_text.specs.declared.answer.Answer.{Answer}
 use Rattle.blob_model.specs.Session.{Session}
 use Rattle.blob_model.specs.History.{History, said_all}
-use Rattle.blob_model.specs.Builds.{Build, builds}
+use Rattle.blob_model.specs.Builds.{builds}
 use Rattle.blob_model.specs.Pieces.{Piece, pieces}
-use Rattle.blob_model.specs.Reached.{reached, reached_of, live_cells, is_granted_piece, owns_some}
+use Rattle.blob_model.specs.Reached.{reached, live_cells, is_granted_piece, owns_some}
 use Rattle.blob_model.specs.Pages.{Page, page_size}
 use Rattle.blob_model.specs.Jobs.{paging, in_flight}
-use Rattle.blob_model.specs.Tally.{in_page_of, reserved_of, bytes_of, is_thin, files, files_of, disk, job_left_in}
-use Rattle.blob_model.specs.Settle.{settle, settle_by, IsSettled, drops, endings, removals, grants, page_jobs, compactions, compaction, movable, can_move, may_start}
+use Rattle.blob_model.specs.Tally.{reserved_of, bytes_of, files, disk, job_left_in}
+use Rattle.blob_model.specs.Settle.{settle_by, IsSettled, drops, endings, removals, grants, page_jobs, compactions, compaction, movable, can_move, may_start}
 use Rattle.blob_model.specs.LegalLaws.{reached_bytes, is_thin_now}
 use Rattle.blob_model.proofs.Same.{false_true}
 

@@ -1,9 +1,8 @@
 -- A refused line settles nothing and keeps the tally.
-use Rattle.std.proofs.Common.{◌≡◌, ◌⊎◌, ℕ, ◌+◌, ◌-◌, ◌==◌, Bool, true, false, ◌&&◌, ◌||◌, not, List, [], ◌∷◌, ◌++◌, map, length, min, refl, ap, subst, sym, ◌∙◌, inl, inr, Option, Some, None, reverse}
-use Rattle.std.specs.Prelude.{cond, filter, filter_map, find, is_none, nat_lt, nat_le, if◌then◌else◌}
-use Rattle.std.specs.Option.{option_map, option_map_or, option_to_list}
+use Rattle.std.proofs.Common.{◌≡◌, ℕ, ◌+◌, ◌-◌, ◌==◌, Bool, true, false, ◌&&◌, ◌||◌, not, List, [], ◌∷◌, ◌++◌, map, length, min, refl, ap, subst, ◌∙◌, Option, Some, None, reverse}
+use Rattle.std.specs.Prelude.{filter, filter_map, find, nat_lt, if◌then◌else◌}
+use Rattle.std.specs.Option.{option_map, option_to_list}
 use Rattle.std.specs.List.{AllByRecursion, list_any}
-use Rattle.std.proofs.lemmas.Bool.{or_parts}
 use Rattle.blob_words.specs.declared.version.Version.{Version}
 use Rattle.blob_words.specs.declared.version.Version.TheVariants.{One, Two}
 use Rattle.session_script.specs.declared.event.Event.{Event}
@@ -14,26 +13,23 @@ use Rattle.answer_text.specs.declared.group.Group.{Group}
 use Rattle.recent_items.specs.Recent.{victims}
 use Rattle.blob_model.specs.Session.{Session}
 use Rattle.blob_model.specs.History.{History, start, refused, said_all, after, history_from}
-use Rattle.blob_model.specs.Parts.{sources, own_bytes}
 use Rattle.blob_model.specs.Builds.{Build, builds}
 use Rattle.blob_model.specs.Standing.{is_unfinished, is_broken, is_done}
-use Rattle.blob_model.specs.Live.{live, is_live}
+use Rattle.blob_model.specs.Live.{live}
 use Rattle.blob_model.specs.Pieces.{Piece, pieces}
-use Rattle.blob_model.specs.Reached.{reached, reached_of, live_cells, is_granted_piece, owns_some}
+use Rattle.blob_model.specs.Reached.{reached, reached_of, live_cells}
 use Rattle.blob_model.specs.Pages.{Page, pages}
-use Rattle.blob_model.specs.Jobs.{is_in_job, breaks_waiting, unstored}
-use Rattle.blob_model.specs.Tally.{memory, memory_of, disk, disk_of, in_memory_of, in_page_of, files, files_of, tally, tally_of}
-use Rattle.blob_model.specs.Waits.{is_waiting, waits, has_sources, is_complete}
-use Rattle.blob_model.specs.Victims.{last_uses, with_length, pageable, recency, head_bytes, chosen}
-use Rattle.blob_model.specs.Settle.{drops, ending, ending_tests, ending_answers, endings_of, endings, is_unwritten, is_deserted, removal, removals, is_due, grants_of, grants, page_job_of, page_jobs, may_start, can_move, movable, compaction, compactions, kept_of, settle_by, settle, IsSettled}
-use Rattle.blob_model.specs.Choice.{first_that}
+use Rattle.blob_model.specs.Jobs.{is_in_job, breaks_waiting}
+use Rattle.blob_model.specs.Tally.{memory, memory_of, disk_of, in_memory_of, files, files_of, tally, tally_of}
+use Rattle.blob_model.specs.Waits.{is_waiting, waits}
+use Rattle.blob_model.specs.Victims.{last_uses, with_length, head_bytes, chosen}
+use Rattle.blob_model.specs.Settle.{drops, ending, ending_tests, ending_answers, endings_of, endings, removal, removals, is_due, grants, page_job_of, page_jobs, may_start, can_move, movable, compaction, compactions, settle, IsSettled}
 use Rattle.blob_model.specs.Refusals.{refusal}
-use Rattle.blob_model.specs.Own.{IsOwn, IsOwnBy}
+use Rattle.blob_model.specs.Own.{IsOwnBy}
 use Rattle.blob_model.specs.Legal.{left_files, IsLegalGroup, IsLegalFrom}
-use Rattle.blob_model.proofs.Same.{false_true}
 use Rattle.blob_model.proofs.CellLemmas.{none_applies}
 use Rattle.blob_model.proofs.ReachLemmas.{nil_parts, all_empty}
-use Rattle.blob_model.proofs.SameLemmas.{filter_same, any_same, filter_none, live_alike, drops_test, dropping}
+use Rattle.blob_model.proofs.SameLemmas.{live_alike, dropping}
 use Rattle.blob_model.proofs.EndingLemmas.{none_that}
 use Rattle.blob_model.proofs.PassLemmas.{pass_empty}
 use Rattle.blob_model.proofs.KeptLemmas.{for_each}

@@ -1,30 +1,27 @@
 -- An accepted line that builds nothing makes no blob rooted.
-use Rattle.std.proofs.Common.{◌≡◌, ◌⊎◌, ℕ, zero, suc, ◌+◌, ◌-◌, ◌≤◌, ◌<◌, ◌==◌, Bool, true, false, ◌&&◌, ◌||◌, not, List, [], ◌∷◌, ◌++◌, map, length, refl, ap, subst, sym, ◌∙◌, inl, inr, ⊎_elim, arith, Option, Some, None}
-use Rattle.std.specs.Prelude.{cond, filter, find, is_some, is_none, nat_lt, bytes_eq, if◌then◌else◌}
-use Rattle.std.specs.List.{AllByRecursion, list_any}
-use Rattle.std.proofs.lemmas.Bool.{and_parts, or_parts, eqb-true, eq-eqb, ltb-true, lt-ltb}
+use Rattle.std.proofs.Common.{◌≡◌, ◌⊎◌, ℕ, ◌+◌, ◌==◌, Bool, true, false, ◌&&◌, ◌||◌, not, List, [], ◌∷◌, ◌++◌, map, length, refl, subst, sym, ◌∙◌, inl, inr, ⊎_elim, Option, Some, None}
+use Rattle.std.specs.Prelude.{cond, filter, find, nat_lt, bytes_eq, if◌then◌else◌}
+use Rattle.std.specs.List.{list_any}
+use Rattle.std.proofs.lemmas.Bool.{and_parts, eqb-true}
 use Rattle.std.proofs.lemmas.List.Folds.{list_any-append}
-use Rattle.blob_words.specs.declared.number.RendererId.{RendererId}
-use Rattle.blob_words.specs.declared.number.ReaderId.{ReaderId}
 use Rattle.session_script.specs.declared.event.Event.{Event}
 use Rattle.session_script.specs.declared.event.Event.TheVariants as events
 use Rattle.answer_text.specs.declared.answer.Answer.{Answer}
 use Rattle.answer_text.specs.declared.answer.Answer.TheVariants as answers
-use Rattle.answer_text.specs.declared.refusal.Refusal.{Refusal}
 use Rattle.blob_model.specs.Session.{Session}
-use Rattle.blob_model.specs.History.{History, start, heard, refused, said}
+use Rattle.blob_model.specs.History.{History, heard}
 use Rattle.blob_model.specs.Renderers.{Renderer, spawned, is_spawned, is_dead, is_alive}
 use Rattle.blob_model.specs.Handles.{has_handle, count, is_held}
 use Rattle.blob_model.specs.Entries.{Entry, entries, is_named, resolved}
 use Rattle.blob_model.specs.Readers.{OpenReader, readers, is_read, advanced, closed, fetched, opened}
 use Rattle.blob_model.specs.Live.{is_rooted}
-use Rattle.blob_model.specs.Refusals.{refusal, refusals_of, fetch_refusals}
+use Rattle.blob_model.specs.Refusals.{refusal}
 use Rattle.blob_model.specs.Laws.{is_build}
 use Rattle.blob_model.proofs.Same.{false_true}
 use Rattle.blob_model.proofs.Check.{or_cases, or_first, or_second}
 use Rattle.blob_model.proofs.HeardLemmas.{tests_fail, not_false}
 use Rattle.blob_model.proofs.LineLemmas.{held_pass, held_drop, held_die}
-use Rattle.blob_model.proofs.LiveLemmas.{any_append_first, any_append_second}
+use Rattle.blob_model.proofs.LiveLemmas.{any_append_first}
 
 -- ---- lists
 
@@ -94,8 +91,8 @@ handle_before s h (events.Slice renderer b source from to kind) answer holder na
 handle_before s h (events.Pass renderer to b) answer holder name accepted other has =
     ⊎_elim
     (λ (here : ((to.0 == holder) && (b == name)) ≡ true).
-        let same : b ≡ name = eqb-true b name (and_parts (to.0 == holder) (b == name) here).1 in
-        (renderer.0, subst (λ (n : ℕ). has_handle h renderer.0 n ≡ true) same (not_false (has_handle h renderer.0 b) (tests_fail s h (events.Pass renderer to b) accepted).1.1.0)))
+    let same : b ≡ name = eqb-true b name (and_parts (to.0 == holder) (b == name) here).1 in
+    (renderer.0, subst (λ (n : ℕ). has_handle h renderer.0 n ≡ true) same (not_false (has_handle h renderer.0 b) (tests_fail s h (events.Pass renderer to b) accepted).1.1.0)))
     (λ (before : nat_lt 0 (count h holder name) ≡ true). (holder, before))
     (held_pass ((to.0 == holder) && (b == name)) (count h holder name) has)
 handle_before s h (events.Drop renderer b) answer holder name accepted other has = (holder, held_drop ((renderer.0 == holder) && (b == name)) (count h holder name) has)
@@ -154,16 +151,20 @@ read_before s h event answer name holders accepted e = go event answer accepted 
   where
     reads : is_read s.limits.page h name ≡ true → is_rooted s.limits.page h name ≡ true
     reads f = or_second (is_held h name || is_named h name) (is_read s.limits.page h name) f
+
     holds : is_held h name ≡ true → is_rooted s.limits.page h name ≡ true
     holds f = or_first (is_held h name || is_named h name) (is_read s.limits.page h name) (or_first (is_held h name) (is_named h name) f)
+
     names : is_named h name ≡ true → is_rooted s.limits.page h name ≡ true
     names f = or_first (is_held h name || is_named h name) (is_read s.limits.page h name) (or_second (is_held h name) (is_named h name) f)
+
     by_entry : (owner number off : ℕ) (len : Option ℕ) (text : List ℕ) (found : Option Entry) → resolved h owner text ≡ found
         → (list_any (λ (reader : OpenReader). reader.blob == name) (readers s.limits.page h) ≡ true) ⊎ (list_any (λ (reader : OpenReader). reader.blob == name) (fetched s.limits.page h owner number found off len) ≡ true) → is_rooted s.limits.page h name ≡ true
     by_entry owner number off len text found at (inl front) = reads front
     by_entry owner number off len text None at (inr back) = absurd (false_true back)
     by_entry owner number off len text (Some entry) at (inr back) =
         ⊎_elim (λ (here : (entry.blob == name) ≡ true). names (resolved_named _ (entries h) entry name at here)) (λ (none : false ≡ true). absurd (false_true none)) (or_cases (entry.blob == name) false back)
+
     go : (line : Event) (first : Answer) → refusal s h line ≡ None → is_read s.limits.page (heard h line first) name ≡ true → is_rooted s.limits.page h name ≡ true
     go (events.Read renderer reader b off len) first ok f =
         ⊎_elim reads (λ (here : (b == name) ≡ true). holds (held_at h renderer.0 b name holders (tests_fail s h (events.Read renderer reader b off len) ok).1.0 here))
@@ -186,13 +187,14 @@ pub rooted_before : (s : Session) (h : History) (event : Event) (answer : Answer
 rooted_before s h event answer name holders accepted other e =
     ⊎_elim
     (λ (two : (is_held (heard h event answer) name || is_named (heard h event answer) name) ≡ true).
-        ⊎_elim (λ (held : is_held (heard h event answer) name ≡ true). holds (held_before s h event answer name holders accepted other held))
-        (λ (named : is_named (heard h event answer) name ≡ true). ⊎_elim names holds (named_before s h event answer name holders accepted named))
-        (or_cases (is_held (heard h event answer) name) (is_named (heard h event answer) name) two))
+    ⊎_elim (λ (held : is_held (heard h event answer) name ≡ true). holds (held_before s h event answer name holders accepted other held))
+    (λ (named : is_named (heard h event answer) name ≡ true). ⊎_elim names holds (named_before s h event answer name holders accepted named))
+    (or_cases (is_held (heard h event answer) name) (is_named (heard h event answer) name) two))
     (λ (reads : is_read s.limits.page (heard h event answer) name ≡ true). read_before s h event answer name holders accepted reads)
     (or_cases (is_held (heard h event answer) name || is_named (heard h event answer) name) (is_read s.limits.page (heard h event answer) name) e)
   where
     holds : is_held h name ≡ true → is_rooted s.limits.page h name ≡ true
     holds f = or_first (is_held h name || is_named h name) (is_read s.limits.page h name) (or_first (is_held h name) (is_named h name) f)
+
     names : is_named h name ≡ true → is_rooted s.limits.page h name ≡ true
     names f = or_first (is_held h name || is_named h name) (is_read s.limits.page h name) (or_second (is_held h name) (is_named h name) f)

@@ -1,6 +1,6 @@
 -- Histories that agree on some notions agree on what is made of them.
-use Rattle.std.proofs.Common.{◌≡◌, ◌⊎◌, ℕ, ◌==◌, Bool, true, false, ◌&&◌, ◌||◌, not, List, [], ◌∷◌, ◌++◌, map, reverse, length, refl, ap, subst, sym, ◌∙◌, inl, inr, ⊎_elim, Option, Some, None}
-use Rattle.std.specs.Prelude.{cond, filter, is_none, if◌then◌else◌}
+use Rattle.std.proofs.Common.{◌≡◌, ℕ, ◌==◌, Bool, true, false, ◌&&◌, ◌||◌, not, List, [], ◌∷◌, ◌++◌, map, reverse, refl, ap, subst, sym, ◌∙◌, Option, Some}
+use Rattle.std.specs.Prelude.{cond, filter, is_none}
 use Rattle.std.specs.List.{AllByRecursion, list_any}
 use Rattle.std.proofs.lemmas.Bool.{and_parts, eqb-true, eq-eqb}
 use Rattle.answer_text.specs.declared.answer.Answer.{Answer}
@@ -10,11 +10,11 @@ use Rattle.blob_words.specs.declared.status.Status.TheVariants as statuses
 use Rattle.blob_model.specs.Session.{Session}
 use Rattle.blob_model.specs.History.{History, said, said_all}
 use Rattle.blob_model.specs.Builds.{Build, builds}
-use Rattle.blob_model.specs.Standing.{ended, is_unfinished, was_granted}
+use Rattle.blob_model.specs.Standing.{ended, is_unfinished}
 use Rattle.blob_model.specs.Live.{is_rooted, has_source, is_needed, live_from, live, is_live}
 use Rattle.blob_model.specs.Settle.{drops}
 use Rattle.blob_model.proofs.Same.{false_true}
-use Rattle.blob_model.proofs.Check.{or_cases, or_first, or_second}
+use Rattle.blob_model.proofs.Check.{or_first, or_second}
 use Rattle.blob_model.proofs.LiveLemmas.{named, later_live}
 use Rattle.blob_model.proofs.KeptLemmas.{unfinished_said}
 

@@ -1,10 +1,10 @@
 -- Lists of worked sessions that are legal, or that are not, by the test.
-use Rattle.std.proofs.Common.{◌≡◌, Bool, true, false, ◌&&◌, not, List, [], ◌∷◌, refl}
-use Rattle.std.specs.List.{AllByRecursion, list_all}
+use Rattle.std.proofs.Common.{◌≡◌, Bool, true, false, not, List, [], ◌∷◌, refl}
+use Rattle.std.specs.List.{list_all}
 use Rattle.std.proofs.lemmas.Bool.{and_parts}
 use Rattle.blob_model.specs.History.{start}
 use Rattle.blob_model.specs.Legal.{session}
-use Rattle.blob_model.specs.Worked.{Worked, IsLegalSession, AllLegal, AllIllegal}
+use Rattle.blob_model.specs.Worked.{Worked, AllLegal, AllIllegal}
 use Rattle.blob_model.proofs.Same.{false_true}
 use Rattle.blob_model.proofs.Checks.{is_legal_from, legal_by, illegal_by}
 

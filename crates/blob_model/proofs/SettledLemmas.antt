@@ -1,34 +1,30 @@
 -- After what is settled nothing is owed.
-use Rattle.std.proofs.Common.{◌≡◌, ◌⊎◌, ℕ, ◌==◌, Bool, true, false, ◌&&◌, ◌||◌, not, List, [], ◌∷◌, ◌++◌, map, reverse, length, refl, ap, subst, sym, ◌∙◌, inl, inr, ⊎_elim, Option, Some, None}
-use Rattle.std.specs.Prelude.{cond, filter, is_none, is_some, if◌then◌else◌}
+use Rattle.std.proofs.Common.{◌≡◌, ℕ, ◌==◌, Bool, true, false, List, [], ◌∷◌, ◌++◌, map, reverse, refl, ap, subst, sym, ◌∙◌, ⊎_elim}
+use Rattle.std.specs.Prelude.{cond, filter, if◌then◌else◌}
 use Rattle.std.specs.Option.{option_map_or}
 use Rattle.std.specs.List.{AllByRecursion, list_any}
-use Rattle.std.proofs.lemmas.Bool.{and_parts, or_parts, eqb-true, eq-eqb}
-use Rattle.blob_words.specs.declared.plan.Plan.{Plan}
+use Rattle.std.proofs.lemmas.Bool.{or_parts, eqb-true, eq-eqb}
 use Rattle.answer_text.specs.declared.answer.Answer.{Answer}
 use Rattle.answer_text.specs.declared.answer.Answer.TheVariants as answers
-use Rattle.answer_text.specs.declared.group.Group.{Group}
 use Rattle.blob_model.specs.Session.{Session}
-use Rattle.blob_model.specs.History.{History, start, said, said_all, after, history_from}
+use Rattle.blob_model.specs.History.{History, said, said_all}
 use Rattle.blob_model.specs.Builds.{Build, builds}
 use Rattle.blob_model.specs.Standing.{is_unfinished, is_broken, is_done, was_granted, is_granted, grants_at_once}
 use Rattle.blob_model.specs.Transport.{has_all}
 use Rattle.blob_model.specs.Waits.{is_waiting, waits}
 use Rattle.blob_model.specs.Pages.{Page, pages}
 use Rattle.blob_model.specs.Tally.{files}
-use Rattle.blob_model.specs.Settle.{drops, ending_answers, endings_of, endings, removal, removals, is_due, grants, page_jobs, compactions, settle_by, settle, IsSettled}
-use Rattle.blob_model.specs.Own.{IsOwn}
-use Rattle.blob_model.specs.Legal.{left_files, IsLegalGroup, IsLegalFrom}
+use Rattle.blob_model.specs.Settle.{drops, endings_of, endings, removal, removals, is_due, grants, page_jobs, compactions, settle_by, settle, IsSettled}
 use Rattle.blob_model.proofs.Same.{false_true}
 use Rattle.blob_model.proofs.Check.{or_cases, or_first, or_second}
 use Rattle.blob_model.proofs.LiveLemmas.{named}
-use Rattle.blob_model.proofs.OrderLemmas.{AreOrdered, ordered_distinct, Distinct, named_filter}
+use Rattle.blob_model.proofs.OrderLemmas.{ordered_distinct, Distinct, named_filter}
 use Rattle.blob_model.proofs.KeptLemmas.{Kept, for_each}
-use Rattle.blob_model.proofs.GroupLemmas.{kept_all, kept_own, kept_start}
-use Rattle.blob_model.proofs.SameLemmas.{said_append, kept_by_all, builds_all, drops_test, dropping, drops_done}
+use Rattle.blob_model.proofs.GroupLemmas.{kept_all}
+use Rattle.blob_model.proofs.SameLemmas.{said_append, builds_all, drops_test, dropping, drops_done}
 use Rattle.blob_model.proofs.EndingLemmas.{AllQuiet, waiting_all}
 use Rattle.blob_model.proofs.PassLemmas.{Behind, pass_over, pass_empty, quiet_append, drops_break, drops_do}
-use Rattle.blob_model.proofs.LateLemmas.{AllLate, AllStill, is_still, all_late, all_quiet, late_append, drops_late, broken_late, done_late, granted_still}
+use Rattle.blob_model.proofs.LateLemmas.{AllLate, AllStill, all_late, all_quiet, late_append, drops_late, broken_late, done_late, granted_still}
 use Rattle.blob_model.proofs.DueLemmas.{removals_late, removals_done}
 use Rattle.blob_model.proofs.GrantLemmas.{grants_done, grants_still, grants_late, granted_waited, page_jobs_still, compactions_still, jobs_done}
 
@@ -85,7 +81,7 @@ drops_quiet : (list : List Build) → AllQuiet (map dropping list)
 drops_quiet [] = tt
 drops_quiet (build ∷ list) = (refl, drops_quiet list)
 
-drops_grant : (h : History) (list : List Build) (name : ℕ) → was_granted (said_all h (map dropping list)) name ≡ was_granted h name
+pub drops_grant : (h : History) (list : List Build) (name : ℕ) → was_granted (said_all h (map dropping list)) name ≡ was_granted h name
 drops_grant h [] name = refl
 drops_grant h (build ∷ list) name = drops_grant (said h (dropping build)) list name
 

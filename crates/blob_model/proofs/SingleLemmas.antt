@@ -1,8 +1,8 @@
 -- Where all is told and nothing fails, each line has one answer.
-use Rattle.std.proofs.Common.{◌≡◌, ◌⊎◌, ℕ, zero, suc, Bool, true, false, ◌&&◌, ◌||◌, not, List, [], ◌∷◌, ◌++◌, refl, ap, subst, sym, ◌∙◌, inl, inr, Option, Some, None, ⊎_elim}
+use Rattle.std.proofs.Common.{◌≡◌, ℕ, zero, suc, Bool, true, false, ◌||◌, List, [], ◌∷◌, ◌++◌, refl, ap, subst, sym, ◌∙◌, inl, inr, Option, Some, None}
 use Rattle.std.specs.Prelude.{slice_get, is_some, is_none}
 use Rattle.std.specs.List.{list_all}
-use Rattle.std.proofs.lemmas.Bool.{eqb-true, and_parts, or_parts}
+use Rattle.std.proofs.lemmas.Bool.{eqb-true, and_parts}
 use Rattle.blob_words.specs.declared.number.ReaderId.{ReaderId}
 use Rattle.blob_words.specs.declared.number.JobNo.{JobNo}
 use Rattle.blob_words.specs.declared.plan.Plan.{Plan}
@@ -14,7 +14,7 @@ use Rattle.session_script.specs.declared.event.Event.TheVariants as events
 use Rattle.answer_text.specs.declared.answer.Answer.{Answer}
 use Rattle.answer_text.specs.declared.answer.Answer.TheVariants as answers
 use Rattle.answer_text.specs.declared.refusal.Refusal.{Refusal}
-use Rattle.blob_model.specs.Session.{Slot, Outside, Session}
+use Rattle.blob_model.specs.Session.{Slot, Session}
 use Rattle.blob_model.specs.History.{History}
 use Rattle.blob_model.specs.Builds.{Cell, sent, filed, lent}
 use Rattle.blob_model.specs.Standing.{ended}
@@ -25,7 +25,7 @@ use Rattle.blob_model.specs.Chunk.{left, chunk, file_of, first_failing, before_f
 use Rattle.blob_model.specs.Value.{value, is_untold, tells_nothing, is_byte, agrees, agree}
 use Rattle.blob_model.specs.Refusals.{refusal}
 use Rattle.blob_model.specs.Choice.{IsOneOf}
-use Rattle.blob_model.specs.Own.{accepted, failing, unstored, plan_in, job_failed, source_of, page_fault, sent_fault, cell_fault, read_faults, IsGiven, IsRead, IsReadOf, IsNext, IsStepBy, IsStep, IsAccepted, IsOwnBy, IsOwn}
+use Rattle.blob_model.specs.Own.{accepted, failing, unstored, plan_in, job_failed, source_of, page_fault, sent_fault, cell_fault, read_faults, IsGiven, IsRead, IsNext, IsStepBy, IsStep, IsAccepted, IsOwnBy, IsOwn}
 use Rattle.blob_model.specs.Jobs.{in_flight}
 use Rattle.blob_model.specs.Tally.{job_left}
 use Rattle.blob_model.specs.LegalLaws.{AllTold, tells, is_good}

@@ -1,5 +1,5 @@
 -- How the blobs go on from one legal group to the next.
-use Rattle.std.proofs.Common.{◌≡◌, ◌≢◌, ◌⊎◌, ℕ, Bool, true, false, ◌&&◌, not, List, [], ◌∷◌, ◌++◌, refl, ap, subst, sym, ◌∙◌, inl, inr, ⊎_elim, Option, Some, None}
+use Rattle.std.proofs.Common.{◌≡◌, ◌⊎◌, ℕ, false, List, [], ◌∷◌, ◌++◌, refl, ap, subst, sym, ◌∙◌, inl, inr, ⊎_elim, Option, Some, None}
 use Rattle.session_script.specs.declared.event.Event.{Event}
 use Rattle.session_script.specs.declared.event.Event.TheVariants as events
 use Rattle.session_script.specs.declared.event.Part.{Part}
@@ -9,16 +9,14 @@ use Rattle.answer_text.specs.declared.refusal.Refusal.{Refusal}
 use Rattle.answer_text.specs.declared.group.Group.{Group}
 use Rattle.blob_words.specs.declared.status.Status.{Status}
 use Rattle.blob_model.specs.Session.{Session}
-use Rattle.blob_model.specs.History.{History, start, heard, refused, said, heard_first, said_all, after, history_from}
+use Rattle.blob_model.specs.History.{History, heard, said, heard_first, said_all, after}
 use Rattle.blob_model.specs.Builds.{Build, builds, built, builds_after, plan_told, slice_parts}
 use Rattle.blob_model.specs.Settle.{settle}
 use Rattle.blob_model.specs.Construct.{line_status, build_answer, build_answer_by}
 use Rattle.blob_model.specs.Refusals.{refusal}
-use Rattle.blob_model.specs.Choice.{first_that}
 use Rattle.blob_model.specs.Own.{IsOwn, IsOwnBy, IsAccepted}
-use Rattle.blob_model.specs.Legal.{left_files, IsLegalGroup, IsLegalFrom}
+use Rattle.blob_model.specs.Legal.{left_files, IsLegalGroup}
 use Rattle.blob_model.specs.Laws.{is_build}
-use Rattle.blob_model.proofs.Same.{false_true}
 
 -- further answers build nothing
 pub builds-said : (page : ℕ) (h : History) (more : List Answer) → builds page (said_all h more) ≡ builds page h

@@ -1,10 +1,9 @@
 -- The steps of settling keep the bytes in memory within the limit.
-use Rattle.std.proofs.Common.{◌≡◌, ◌⊎◌, ℕ, ◌+◌, ◌≤◌, ◌<◌, ◌==◌, Bool, true, false, ◌&&◌, ◌||◌, not, List, [], ◌∷◌, ◌++◌, map, reverse, length, refl, ap, subst, sym, ◌∙◌, inl, inr, ⊎_elim, arith, Option, Some, None}
-use Rattle.std.specs.Prelude.{cond, filter, find, is_none, is_some, sum, sum_by, nat_le, if◌then◌else◌}
+use Rattle.std.proofs.Common.{◌≡◌, ◌⊎◌, ℕ, ◌+◌, ◌≤◌, ◌==◌, Bool, true, false, List, [], ◌∷◌, ◌++◌, map, reverse, length, refl, ap, subst, sym, ◌∙◌, ⊎_elim, arith, Option, Some, None}
+use Rattle.std.specs.Prelude.{cond, filter, is_none, sum, sum_by, if◌then◌else◌}
 use Rattle.std.specs.Option.{option_map_or, option_to_list}
-use Rattle.std.specs.List.{AllByRecursion, list_any}
-use Rattle.std.proofs.lemmas.Bool.{and_parts, or_parts, eqb-true, eq-eqb, leb-true}
-use Rattle.std.proofs.lemmas.List.{reverse-append}
+use Rattle.std.specs.List.{AllByRecursion}
+use Rattle.std.proofs.lemmas.Bool.{or_parts, eqb-true}
 use Rattle.std.proofs.lemmas.List.Sums.{sum_by-cons, sum_by-append}
 use Rattle.blob_words.specs.declared.plan.Plan.{Plan}
 use Rattle.blob_words.specs.declared.status.Status.{Status}
@@ -17,23 +16,18 @@ use Rattle.blob_words.specs.declared.limits.Limits.{Limits}
 use Rattle.blob_model.specs.Session.{Session}
 use Rattle.blob_model.specs.History.{History, said, said_all}
 use Rattle.blob_model.specs.Parts.{own_lengths, own_bytes}
-use Rattle.blob_model.specs.Builds.{Cell, Build, builds, build_in}
-use Rattle.blob_model.specs.Standing.{ended, is_unfinished, is_broken, is_broken_status, was_granted, is_granted, grants_at_once}
-use Rattle.blob_model.specs.Pieces.{Piece, pieces, pieces_from, numbered, planned_spans, spans_of}
-use Rattle.blob_model.specs.Reached.{reached, live_cells, is_granted_piece, owns_some}
-use Rattle.blob_model.specs.Pages.{Page, pages, page_with, lists, place_in, is_memory}
-use Rattle.blob_model.specs.Tally.{memory, bytes_of}
-use Rattle.blob_model.specs.Waits.{is_waiting, waits}
-use Rattle.blob_model.specs.Settle.{drops, ending, ending_tests, ending_answers, endings_of, endings, removals, grants_of, grants, page_jobs, compactions}
-use Rattle.blob_model.proofs.Same.{false_true, both}
-use Rattle.blob_model.proofs.Check.{or_cases, or_first, or_second}
+use Rattle.blob_model.specs.Builds.{Build, builds, build_in}
+use Rattle.blob_model.specs.Standing.{ended, is_unfinished, is_broken, is_broken_status, was_granted}
+use Rattle.blob_model.specs.Pieces.{Piece, pieces_from, numbered, planned_spans, spans_of}
+use Rattle.blob_model.specs.Pages.{Page, pages, page_with}
+use Rattle.blob_model.specs.Settle.{drops, ending, ending_tests, ending_answers, endings_of, endings}
+use Rattle.blob_model.proofs.Same.{false_true}
 use Rattle.blob_model.proofs.LiveLemmas.{named}
-use Rattle.blob_model.proofs.OrderLemmas.{AreOrdered, Distinct, ordered_distinct, all_found}
+use Rattle.blob_model.proofs.OrderLemmas.{Distinct}
 use Rattle.blob_model.proofs.SameLemmas.{said_append, kept_by_kind, builds_all, rooted_said, unfinished_all, drops_test, dropping}
 use Rattle.blob_model.proofs.EndingLemmas.{some_that}
 use Rattle.blob_model.proofs.PassLemmas.{drops_break, pass_grants}
-use Rattle.blob_model.proofs.GrantLemmas.{waits_next}
-use Rattle.blob_model.proofs.ShrinkLemmas.{Shrinks, memory_shrinks}
+use Rattle.blob_model.proofs.ShrinkLemmas.{Shrinks}
 
 -- answers that write no page file
 abbrev pub is_calm : Answer → Bool
@@ -112,7 +106,7 @@ pass_breaks : (s : Session) (g : History) (list : List Build) (name : ℕ) → i
 pass_breaks s g [] name broken = broken
 pass_breaks s g (build ∷ list) name broken =
     let here : is_broken (said_all g (ending_answers s g build)) name ≡ true =
-        one_if s g build (λ (xs : List Answer). is_broken (said_all g xs) name ≡ true) broken (λ answer begun e. ending_breaks s g build answer name begun e broken) in
+    one_if s g build (λ (xs : List Answer). is_broken (said_all g xs) name ≡ true) broken (λ answer begun e. ending_breaks s g build answer name begun e broken) in
     ap (λ (h : History). is_broken h name) (said_append g (ending_answers s g build) (endings_of s (said_all g (ending_answers s g build)) list))
     ∙ pass_breaks s (said_all g (ending_answers s g build)) list name here
 
@@ -145,9 +139,11 @@ sum_either {X = X} f p' q' p q r (x ∷ xs) up = go (q' x) (q x) (p' x) (p x) (r
     first : (b : Bool) (ys : List X) → sum_by f ys ≤ sum_by f (cond b (x ∷ ys) ys)
     first true ys = let whole : sum_by f (x ∷ ys) ≡ f x + sum_by f ys = sum_by-cons f x ys in omega (arith, whole)
     first false ys = omega arith
+
     there : (b : Bool) → sum_by f (filter p (filter q xs)) ≤ sum_by f (filter p (cond b (x ∷ filter q xs) (filter q xs)))
     there true = first (p x) (filter p (filter q xs))
     there false = omega arith
+
     go : (a b c d e : Bool) → p' x ≡ c → p x ≡ d → (c ≡ true → a ≡ true → ((d ≡ true) × (b ≡ true)) ⊎ (e ≡ true))
         → sum_by f (filter p' (filter q' xs)) ≤ sum_by f (filter p (filter q xs)) + sum_by f (filter r xs)
         → sum_by f (filter p' (cond a (x ∷ filter q' xs) (filter q' xs))) ≤ sum_by f (filter p (cond b (x ∷ filter q xs) (filter q xs))) + sum_by f (cond e (x ∷ filter r xs) (filter r xs))
@@ -157,18 +153,18 @@ sum_either {X = X} f p' q' p q r (x ∷ xs) up = go (q' x) (q x) (p' x) (p x) (r
         let wide = there b in let more = first e (filter r xs) in omega (arith, moved, rest, wide, more)
     go true b true d e at_c at_d ok rest =
         let left : sum_by f (filter p' (x ∷ filter q' xs)) ≡ f x + sum_by f (filter p' (filter q' xs)) =
-            ap (λ (z : Bool). sum_by f (cond z (x ∷ filter p' (filter q' xs)) (filter p' (filter q' xs)))) at_c ∙ sum_by-cons f x (filter p' (filter q' xs)) in
+        ap (λ (z : Bool). sum_by f (cond z (x ∷ filter p' (filter q' xs)) (filter p' (filter q' xs)))) at_c ∙ sum_by-cons f x (filter p' (filter q' xs)) in
         ⊎_elim
         (λ (two : (d ≡ true) × (b ≡ true)).
-            let right : sum_by f (filter p (cond b (x ∷ filter q xs) (filter q xs))) ≡ f x + sum_by f (filter p (filter q xs)) =
-                ap (λ (z : Bool). sum_by f (filter p (cond z (x ∷ filter q xs) (filter q xs)))) two.1
-                ∙ ap (λ (z : Bool). sum_by f (cond z (x ∷ filter p (filter q xs)) (filter p (filter q xs)))) (at_d ∙ two.0) ∙ sum_by-cons f x (filter p (filter q xs)) in
-            let more = first e (filter r xs) in
-            omega (arith, left, right, rest, more))
+        let right : sum_by f (filter p (cond b (x ∷ filter q xs) (filter q xs))) ≡ f x + sum_by f (filter p (filter q xs)) =
+        ap (λ (z : Bool). sum_by f (filter p (cond z (x ∷ filter q xs) (filter q xs)))) two.1
+        ∙ ap (λ (z : Bool). sum_by f (cond z (x ∷ filter p (filter q xs)) (filter p (filter q xs)))) (at_d ∙ two.0) ∙ sum_by-cons f x (filter p (filter q xs)) in
+        let more = first e (filter r xs) in
+        omega (arith, left, right, rest, more))
         (λ (other : e ≡ true).
-            let right : sum_by f (cond e (x ∷ filter r xs) (filter r xs)) ≡ f x + sum_by f (filter r xs) = ap (λ (z : Bool). sum_by f (cond z (x ∷ filter r xs) (filter r xs))) other ∙ sum_by-cons f x (filter r xs) in
-            let wide = there b in
-            omega (arith, left, right, rest, wide))
+        let right : sum_by f (cond e (x ∷ filter r xs) (filter r xs)) ≡ f x + sum_by f (filter r xs) = ap (λ (z : Bool). sum_by f (cond z (x ∷ filter r xs) (filter r xs))) other ∙ sum_by-cons f x (filter r xs) in
+        let wide = there b in
+        omega (arith, left, right, rest, wide))
         (ok refl refl)
 
 abbrev pub of_blob : ℕ → List Piece → ℕ
@@ -197,7 +193,7 @@ spans_bytes : (l : Limits) (build : Build) (plan : Option Plan) → sum_by (λ (
 spans_bytes l build None = omega arith
 spans_bytes l build (Some plan) =
     let whole : 0 + sum_by (λ (span : ℕ × ℕ). span.1) (piece_spans l.page 0 (own_lengths build.parts)) ≡ 0 + sum (own_lengths build.parts) =
-        cover_sum (piece_spans l.page 0 (own_lengths build.parts)) 0 (0 + sum (own_lengths build.parts)) (pieces_cover l.page (own_lengths build.parts) 0 l.some_page) in
+    cover_sum (piece_spans l.page 0 (own_lengths build.parts)) 0 (0 + sum (own_lengths build.parts)) (pieces_cover l.page (own_lengths build.parts) 0 l.some_page) in
     omega (arith, whole)
 
 other_bytes : (page number name : ℕ) (list : List Build) → named name list ≡ false → of_blob name (pieces_from page number list) ≡ 0
@@ -216,6 +212,7 @@ blob_bytes l number name (build ∷ list) d = go (build.name == name) refl (blob
     whole =
         ap (sum_by (λ (piece : Piece). piece.len)) (filter_append (λ (piece : Piece). piece.blob == name) (numbered build.name number (spans_of l.page build)) (pieces_from l.page (number + length (spans_of l.page build)) list))
         ∙ sum_by-append (λ (piece : Piece). piece.len) (filter (λ (piece : Piece). piece.blob == name) (numbered build.name number (spans_of l.page build))) (filter (λ (piece : Piece). piece.blob == name) (pieces_from l.page (number + length (spans_of l.page build)) list))
+
     go : (b : Bool) → (build.name == name) ≡ b → of_blob name (pieces_from l.page (number + length (spans_of l.page build)) list) ≤ option_map_or (λ (each : Build). own_bytes each.parts) (build_in list name) 0
         → of_blob name (pieces_from l.page number (build ∷ list)) ≤ option_map_or (λ (each : Build). own_bytes each.parts) (cond b (Some build) (build_in list name)) 0
     go true e rest =

@@ -1,6 +1,6 @@
 -- What holds of the blobs of legal transcripts, and of liveness. File API: the size of a Blob is the number of its bytes.
-use Rattle.std.specs.Prelude.{◌≡◌, ◌≤◌, ◌<◌, ℕ, ◌+◌, ◌==◌, Bool, true, false, List, [], ◌∷◌, length, Some, bytes_eq}
-use Rattle.std.specs.List.{AllByRecursion, list_all, list_any}
+use Rattle.std.specs.Prelude.{◌≡◌, ◌≤◌, ℕ, ◌==◌, Bool, true, false, List, length, Some}
+use Rattle.std.specs.List.{AllByRecursion, list_any}
 use Rattle.blob_words.specs.declared.counted.Counted.TheVariants as counted
 use Rattle.blob_words.specs.declared.number.RendererId.{RendererId}
 use Rattle.session_script.specs.declared.event.Event.TheVariants as events
@@ -9,8 +9,6 @@ use Rattle.answer_text.specs.declared.group.Group.{Group}
 use Rattle.blob_model.specs.Session.{Session}
 use Rattle.blob_model.specs.History.{History, start, history_from}
 use Rattle.blob_model.specs.Renderers.{spawned, is_spawned}
-use Rattle.blob_model.specs.Recorded.{file_names, last_stamp}
-use Rattle.blob_model.specs.Parts.{sources}
 use Rattle.blob_model.specs.Builds.{Build, builds, size}
 use Rattle.blob_model.specs.Standing.{is_unfinished}
 use Rattle.blob_model.specs.Live.{is_rooted, has_source, live, is_live}

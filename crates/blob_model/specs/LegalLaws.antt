@@ -1,12 +1,12 @@
 -- What holds of all legal transcripts, and of all histories that are settled. Own.
-use Rattle.std.specs.Prelude.{◌≡◌, ◌≤◌, ◌<◌, ℕ, ◌+◌, ◌-◌, ◌*◌, ◌&&◌, Bool, true, false, not, List, [], ◌∷◌, ◌++◌, length, map, sum_by, Option, None, Some, is_some}
+use Rattle.std.specs.Prelude.{◌≡◌, ◌≤◌, ◌<◌, ℕ, ◌+◌, ◌-◌, ◌*◌, ◌&&◌, Bool, true, false, not, List, [], ◌∷◌, ◌++◌, map, sum_by, None, is_some}
 use Rattle.std.specs.List.{AllByRecursion, list_all}
 use Rattle.answer_text.specs.declared.answer.Answer.{Answer}
 use Rattle.answer_text.specs.declared.group.Group.{Group}
 use Rattle.session_script.specs.declared.event.Event.{Event}
 use Rattle.blob_model.specs.Session.{Slot, Outside, Session}
-use Rattle.blob_model.specs.History.{History, start, history_from}
-use Rattle.blob_model.specs.Builds.{builds, Build}
+use Rattle.blob_model.specs.History.{History, history_from}
+use Rattle.blob_model.specs.Builds.{builds}
 use Rattle.blob_model.specs.Pieces.{Piece, pieces}
 use Rattle.blob_model.specs.Reached.{reached, is_granted_piece}
 use Rattle.blob_model.specs.Pages.{Page}
@@ -14,7 +14,7 @@ use Rattle.blob_model.specs.Jobs.{paging, in_flight}
 use Rattle.blob_model.specs.Tally.{in_page_of, reserved_of, bytes_of, is_thin, files, disk}
 use Rattle.blob_model.specs.Settle.{IsSettled}
 use Rattle.blob_model.specs.Faults.{is_disk_fault, is_handle_fault}
-use Rattle.blob_model.specs.Legal.{IsLegalGroup, IsLegalFrom, IsLegal, opening, session}
+use Rattle.blob_model.specs.Legal.{IsLegalGroup, IsLegalFrom, IsLegal}
 
 -- whatever a legal transcript begins with is legal
 abbrev pub FrontsAreLegal : Type 0

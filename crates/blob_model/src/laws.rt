@@ -1,6 +1,6 @@
 ghost use Rattle.blob_model.specs.Laws.{ChangeLaws};
 ghost use Rattle.blob_model.specs.BuildLaws.{CellsAreSizes, LiveIsLeast, RootedLive, RenderersAreFew};
-ghost use Rattle.blob_model.specs.SettledLaws.{SettledAfterEach, RefusedSettlesNothing};
+ghost use Rattle.blob_model.specs.SettledLaws.{SettledAfterEach, RefusedSettlesNothing, MemoryFits};
 ghost use Rattle.blob_model.specs.LegalLaws.{FrontsAreLegal, MoreIsLegal, OneTranscript, ReachedAreGranted, ThinStaysForRoom, DiskIsAtMostTwice};
 
 /// After which lines and answers alone each notion changes.
@@ -67,4 +67,9 @@ pub fn settled_after_each()
 /// A refused line has one answer, settles nothing and keeps the tally of the group before it.
 pub fn refused_settles_nothing()
     ensures { RefusedSettlesNothing }
+{}
+
+/// After each group of a legal transcript the bytes in memory are within the limit.
+pub fn memory_fits()
+    ensures { MemoryFits }
 {}

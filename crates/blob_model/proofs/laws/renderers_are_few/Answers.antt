@@ -1,5 +1,5 @@
 -- The first test fails and the second applies.
-use Rattle.std.proofs.Common.{ℕ, Bool, true, ◌≡◌, length, refl}
+use Rattle.std.proofs.Common.{true, ◌≡◌, length, refl}
 use Rattle.std.specs.Prelude.{nat_le}
 use Rattle.std.proofs.lemmas.Bool.{le-leb}
 use Rattle.blob_model.specs.Renderers.{spawned}
