@@ -34,3 +34,4 @@ pub mod BuildMemory
 pub mod FitLemmas
 pub mod BoundLemmas
 pub mod LimitLemmas
+pub mod ClosedLemmas

@@ -1,6 +1,11 @@
 -- What holds of the blobs of legal transcripts, and of liveness. File API: the size of a Blob is the number of its bytes.
 use Rattle.std.specs.Prelude.{◌≡◌, ◌≤◌, ℕ, ◌==◌, Bool, true, false, List, length, Some}
 use Rattle.std.specs.List.{AllByRecursion, list_any}
+use Rattle.blob_words.specs.declared.limits.Limits.{Limits}
+use Rattle.blob_words.specs.declared.plan.Plan.{Plan}
+use Rattle.transport_plan.specs.Spans.{IsEndToEnd}
+use Rattle.blob_model.specs.Parts.{own_bytes}
+use Rattle.blob_model.specs.Pieces.{spans_of}
 use Rattle.blob_words.specs.declared.counted.Counted.TheVariants as counted
 use Rattle.blob_words.specs.declared.number.RendererId.{RendererId}
 use Rattle.session_script.specs.declared.event.Event.TheVariants as events
@@ -34,6 +39,18 @@ LiveIsLeast = (page : ℕ) (h : History) (among : ℕ → Bool) → IsClosed pag
 abbrev pub RootedLive : Type 0
 RootedLive =
     (page : ℕ) (h : History) (name : ℕ) → list_any (λ (build : Build). build.name == name) (builds page h) ≡ true → is_rooted page h name ≡ true → is_live page h name ≡ true
+
+-- in a legal transcript whatever an unfinished live blob takes bytes from lives
+abbrev pub LiveIsClosed : Type 0
+LiveIsClosed =
+    (s : Session) (groups : List Group) → IsLegalFrom s start groups →
+    AllByRecursion
+    (λ (build : Build). is_unfinished (history_from start groups) build.name ≡ true → (source : ℕ) → has_source build source ≡ true → is_live s.limits.page (history_from start groups) source ≡ true)
+    (live s.limits.page (history_from start groups))
+
+-- the pieces of a blob stand end to end and cover each own byte once
+abbrev pub PiecesCover : Type 0
+PiecesCover = (l : Limits) (build : Build) (plan : Plan) → build.plan ≡ Some plan → IsEndToEnd 0 (spans_of l.page build) (own_bytes build.parts)
 
 -- a session has at most 1,024 renderers
 abbrev pub RenderersAreFew : Type 0

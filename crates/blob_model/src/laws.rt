@@ -1,5 +1,5 @@
 ghost use Rattle.blob_model.specs.Laws.{ChangeLaws};
-ghost use Rattle.blob_model.specs.BuildLaws.{CellsAreSizes, LiveIsLeast, RootedLive, RenderersAreFew};
+ghost use Rattle.blob_model.specs.BuildLaws.{CellsAreSizes, LiveIsLeast, RootedLive, RenderersAreFew, LiveIsClosed, PiecesCover};
 ghost use Rattle.blob_model.specs.SettledLaws.{SettledAfterEach, RefusedSettlesNothing, MemoryFits};
 ghost use Rattle.blob_model.specs.LegalLaws.{FrontsAreLegal, MoreIsLegal, OneTranscript, ReachedAreGranted, ThinStaysForRoom, DiskIsAtMostTwice};
 
@@ -72,4 +72,14 @@ pub fn refused_settles_nothing()
 /// After each group of a legal transcript the bytes in memory are within the limit.
 pub fn memory_fits()
     ensures { MemoryFits }
+{}
+
+/// In a legal transcript whatever an unfinished live blob takes bytes from lives.
+pub fn live_is_closed()
+    ensures { LiveIsClosed }
+{}
+
+/// The pieces of a blob stand end to end and cover each own byte once.
+pub fn pieces_cover()
+    ensures { PiecesCover }
 {}
