@@ -1,5 +1,5 @@
 ghost use Rattle.blob_model.specs.Laws.{ChangeLaws};
-ghost use Rattle.blob_model.specs.BuildLaws.{CellsAreSizes, LiveIsLeast, RootedLive, RenderersAreFew, LiveIsClosed, PiecesCover};
+ghost use Rattle.blob_model.specs.BuildLaws.{CellsAreSizes, LiveIsLeast, RootedLive, RenderersAreFew, LiveIsClosed, PiecesCover, PiecesAreFew};
 ghost use Rattle.blob_model.specs.SettledLaws.{SettledAfterEach, RefusedSettlesNothing, MemoryFits};
 ghost use Rattle.blob_model.specs.LegalLaws.{FrontsAreLegal, MoreIsLegal, OneTranscript, ReachedAreGranted, ThinStaysForRoom, DiskIsAtMostTwice};
 
@@ -82,4 +82,9 @@ pub fn live_is_closed()
 /// The pieces of a blob stand end to end and cover each own byte once.
 pub fn pieces_cover()
     ensures { PiecesCover }
+{}
+
+/// A build with which there would be more than 65,536 pieces is refused.
+pub fn pieces_are_few()
+    ensures { PiecesAreFew }
 {}
