@@ -1,21 +1,19 @@
 -- Answers and their texts: what is spelled is read, and nothing else.
-use Rattle.std.proofs.Common.{◌≡◌, ◌≢◌, ℕ, ◌<◌, ◌^◌, List, [], ◌∷◌, ◌++◌, All, map, decimal, codes, false, length, Result, Ok, Err, refl, sym, ap, ◌∙◌, subst, arith}
-use Rattle.std.specs.List.{AllByRecursion, list_any}
+use Rattle.std.proofs.Common.{◌≡◌, ℕ, ◌<◌, ◌^◌, List, [], ◌∷◌, decimal, codes, false, Result, Ok, Err, refl, sym, ap, ◌∙◌, subst, arith}
+use Rattle.std.specs.List.{AllByRecursion}
 use Rattle.std.proofs.lemmas.List.{length-map}
-use Rattle.blob_words.specs.BlobName.{name_text}
 use Rattle.blob_words.specs.declared.counted.Counted.{Counted}
 use Rattle.blob_words.specs.declared.counted.Counted.TheVariants as counts
 use Rattle.blob_words.specs.declared.number.PieceNo.{PieceNo}
 use Rattle.blob_words.specs.declared.plan.Plan.{Plan}
 use Rattle.blob_words.specs.declared.plan.Plan.TheVariants as plans
 use Rattle.blob_words.specs.declared.tally.Tally.{Tally}
-use Rattle.session_script.specs.Fields.{joined, hex_text}
-use Rattle.session_script.specs.Kind.{Kind, Spells, number_32, AllSpell}
+use Rattle.session_script.specs.Fields.{joined}
+use Rattle.session_script.specs.Kind.{Spells, number_32, AllSpell}
 use Rattle.session_script.specs.Reading.{split}
-use Rattle.session_script.specs.Status.{status_word, switch_word}
 use Rattle.session_script.proofs.Splits.{joined-split}
 use Rattle.session_script.proofs.Visible.{AreVisible, has_feed, all_visible, spells_visible, literal_visible, split-visible, feedless}
-use Rattle.answer_text.specs.Fault.{IsRefusal, IsRefusalFields, IsPlan, ArePieces, IsJob, IsPaged, IsAnswerFields, IsAnswer, IsTally, kinds_of, refusal_kinds, plan_kinds, tally_kinds, ReadsAs}
+use Rattle.answer_text.specs.Fault.{IsRefusalFields, IsPlan, ArePieces, IsAnswerFields, IsAnswer, IsTally, kinds_of, refusal_kinds, tally_kinds, ReadsAs}
 use Rattle.answer_text.specs.Reading.{ReadsAnswer}
 use Rattle.answer_text.specs.Text.{refusal_word_of, refusal_fields, plan_fields, piece_fields, word_of, answer_fields, answer_text, tally_fields, tally_text, RefusalHasText, PlanHasText, PiecesHaveText, HasText, TallyHasText}
 use Rattle.answer_text.specs.Word.{word_text, refusal_text, plan_text, counted_fields}

@@ -1,3 +1,6 @@
 pub mod Answers
-pub mod Rows
+pub mod Feeds
+pub mod GroupLemmas
+pub mod Injective
+pub mod RowLemmas
 pub mod Words

@@ -1,7 +1,5 @@
 -- No two words have one text.
-use Rattle.std.proofs.Common.{◌≡◌, ℕ, List, [], ◌∷◌, Option, Some, refl, sym, ap, ◌∙◌, codes}
-use Rattle.blob_words.specs.declared.counted.Counted.{Counted}
-use Rattle.blob_words.specs.declared.counted.Counted.TheVariants as counts
+use Rattle.std.proofs.Common.{◌≡◌, List, [], ◌∷◌, Some, refl, sym, ap, ◌∙◌, codes}
 use Rattle.session_script.proofs.Words.{look_up, some_same}
 use Rattle.answer_text.specs.Word.{word_text, refusal_text, plan_text}
 use Rattle.answer_text.specs.declared.answer_word.AnswerWord.{AnswerWord}

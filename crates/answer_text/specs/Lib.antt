@@ -2,3 +2,4 @@ pub mod Word
 pub mod Text
 pub mod Fault
 pub mod Reading
+pub mod Groups

@@ -9,7 +9,7 @@ ghost use Rattle.answer_text.specs.Word.{plan_text};
 
 use crate::literal::Literal;
 use crate::plan_word::PlanWord;
-use crate::read_row::read_row;
+use crate::rows::read_row;
 use crate::text_fault::TextFault;
 use blob_source::Sink;
 use blob_words::{Failed, Plan};

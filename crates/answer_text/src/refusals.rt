@@ -11,9 +11,9 @@ ghost use Rattle.answer_text.specs.Text.{refusal_word_of, refusal_fields, Refusa
 ghost use Rattle.answer_text.specs.Word.{refusal_text};
 
 use crate::literal::Literal;
-use crate::read_row::read_row;
 use crate::refusal::Refusal;
 use crate::refusal_word::RefusalWord;
+use crate::rows::read_row;
 use crate::text_fault::TextFault;
 use blob_source::Sink;
 use blob_words::{BlobName, Counted, Failed, JobNo, ReaderId, RendererId};

@@ -1,5 +1,5 @@
 -- No two events have one line.
-use Rattle.std.proofs.Common.{◌≡◌, ℕ, zero, suc, ◌<◌, ◌≤◌, ◌^◌, List, [], ◌∷◌, Option, Some, None, IfSome, All, Result, Ok, length, map, get_or, decimal, refl, sym, ap, ◌∙◌, subst, inl, arith}
+use Rattle.std.proofs.Common.{◌≡◌, ℕ, zero, suc, ◌<◌, ◌^◌, List, [], ◌∷◌, Option, Some, None, IfSome, All, Result, Ok, length, map, get_or, decimal, refl, sym, ap, ◌∙◌, inl, arith}
 use Rattle.std.specs.Prelude.{ℤ, pos, negsuc, FitsSigned, codes}
 use lib.Signed.{mag}
 use Rattle.std.specs.Fmt.{signed_decimal}
@@ -14,7 +14,6 @@ use Rattle.uuid.proofs.OrderLemmas.{from_be_bytes-to_be_bytes_16}
 use Rattle.hex.specs.Hex.{IsBytes, decode_of, encode_lower, lower_digits}
 use Rattle.hex.proofs.HexLemmas.{decode_of-encode_lower, length-encode_with}
 use Rattle.blob_words.specs.BlobName.{name_text}
-use Rattle.blob_words.specs.declared.limits.Limits.{Limits}
 use Rattle.blob_words.specs.declared.number.JobNo.{JobNo}
 use Rattle.blob_words.specs.declared.number.ReaderId.{ReaderId}
 use Rattle.blob_words.specs.declared.number.RendererId.{RendererId}
@@ -26,8 +25,6 @@ use Rattle.session_script.specs.declared.event.Event.{Event}
 use Rattle.session_script.specs.declared.event.Event.TheVariants as events
 use Rattle.session_script.specs.declared.event.Part.{Part}
 use Rattle.session_script.specs.declared.event.Part.TheVariants as parts
-use Rattle.session_script.specs.declared.letter.Letter.{Letter}
-use Rattle.session_script.specs.declared.word.Word.{Word}
 use Rattle.session_script.proofs.Limits.{decimals_injective, limits_small, same_limits}
 use Rattle.session_script.proofs.Lines.{split-line_of}
 use Rattle.session_script.proofs.Numbers.{signed_small}

@@ -33,14 +33,25 @@ below n most low fits = omega arith
 
 -- limits fit their type
 pub limits_small : (l : Limits) → AllByRecursion (λ n. n < 2 ^ 64) (limit_numbers l)
-limits_small l =
-    (below l.memory _ l.memory_bound (omega arith),
-    (below l.disk _ l.disk_bound (omega arith),
-    (below l.big _ l.big_bound (below l.memory _ l.memory_bound (omega arith)),
-    (below l.inline_max _ l.inline_bound (omega arith),
-    (below l.segment _ l.segment_bound (omega arith),
-    (below l.page _ l.page_bound (omega arith),
-    (below l.chunk _ l.chunk_bound (omega arith), tt)))))))
+limits_small l = (
+  below l.memory _ l.memory_bound (omega arith),
+  (
+    below l.disk _ l.disk_bound (omega arith),
+    (
+      below l.big _ l.big_bound (below l.memory _ l.memory_bound (omega arith)),
+      (
+        below l.inline_max _ l.inline_bound (omega arith),
+        (
+          below l.segment _ l.segment_bound (omega arith),
+          (
+            below l.page _ l.page_bound (omega arith),
+            (below l.chunk _ l.chunk_bound (omega arith), tt),
+          ),
+        ),
+      ),
+    ),
+  ),
+)
 
 -- numbers with the same digits are the same
 pub decimals_injective : (xs ys : List ℕ) → AllByRecursion (λ n. n < 2 ^ 64) xs → AllByRecursion (λ n. n < 2 ^ 64) ys → map decimal xs ≡ map decimal ys → xs ≡ ys

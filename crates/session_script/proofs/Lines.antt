@@ -1,16 +1,16 @@
 -- Lines and their events: what is spelled is read, and has no fault.
-use Rattle.std.proofs.Common.{◌≡◌, ◌≢◌, ℕ, ◌⊎◌, ◌<◌, ◌≤◌, ◌^◌, List, [], ◌∷◌, ◌++◌, length, map, decimal, false, ◌==◌, Result, Ok, Err, IfErr, inl, inr, refl, sym, ap, ◌∙◌, subst, arith}
+use Rattle.std.proofs.Common.{◌≡◌, ◌≢◌, ℕ, ◌⊎◌, ◌≤◌, List, [], ◌∷◌, length, map, decimal, false, ◌==◌, Result, Ok, Err, IfErr, inl, inr, refl, sym, ap, ◌∙◌, subst, arith}
 use Rattle.std.specs.List.{AllByRecursion, list_any}
 use Rattle.std.proofs.lemmas.List.{length-map}
 use Rattle.blob_words.specs.BlobName.{name_text}
 use Rattle.blob_words.specs.declared.limits.Limits.{Limits}
 use Rattle.session_script.specs.EventReading.{ReadsEvent}
-use Rattle.session_script.specs.Fault.{IsPart, IsPartFault, IsFirstPartFault, IsBuildCount, IsBuildFault, IsLimitsFault, IsOwnFault, IsWordsFault, IsLineFault, kinds_of, kinds_of_letter}
+use Rattle.session_script.specs.Fault.{IsPart, IsPartFault, IsFirstPartFault, IsBuildFault, IsLimitsFault, IsOwnFault, IsWordsFault, IsLineFault, kinds_of, kinds_of_letter}
 use Rattle.session_script.specs.Fields.{joined, hex_text}
-use Rattle.session_script.specs.Kind.{Kind, Spells, AllSpell, IsFirstFault, IsRowFault}
+use Rattle.session_script.specs.Kind.{Kind, AllSpell, IsFirstFault, IsRowFault}
 use Rattle.session_script.specs.Line.{word_of, event_fields, line_of, limit_numbers, part_text, PartHasText, HasSpelling}
 use Rattle.session_script.specs.Reading.{split, IsReading}
-use Rattle.session_script.specs.Word.{word_text, letter_text}
+use Rattle.session_script.specs.Word.{word_text}
 use Rattle.session_script.specs.declared.event.Event.{Event}
 use Rattle.session_script.specs.declared.event.Event.TheVariants as events
 use Rattle.session_script.specs.declared.event.Part.{Part}
@@ -22,7 +22,7 @@ use Rattle.session_script.specs.declared.word.Word.{Word}
 use Rattle.session_script.specs.declared.word.Word.TheVariants as words
 use Rattle.session_script.proofs.Limits.{limits_small, limits_taken}
 use Rattle.session_script.proofs.Rows.{length_spelled}
-use Rattle.session_script.proofs.Splits.{joined-split, split_not_empty}
+use Rattle.session_script.proofs.Splits.{joined-split}
 use Rattle.session_script.proofs.Visible.{AreVisible, all_visible, is_part, parts_visible, split-visible, word_visible, feedless}
 use Rattle.session_script.proofs.Words.{same_word, same_letter}
 
@@ -75,9 +75,19 @@ parts_no_fault (part ∷ all) fault fits (inr behind) = parts_no_fault all fault
 
 limits_spelled : (l : Limits) → AllSpell (kinds_of words.Limits) (map decimal (limit_numbers l))
 limits_spelled l =
-    let small = limits_small l in
-    ((l.memory, small.0, refl), ((l.disk, small.1.0, refl), ((l.big, small.1.1.0, refl), ((l.inline_max, small.1.1.1.0, refl),
-    ((l.segment, small.1.1.1.1.0, refl), ((l.page, small.1.1.1.1.1.0, refl), ((l.chunk, small.1.1.1.1.1.1.0, refl), tt)))))))
+    let small = limits_small l in (
+      (l.memory, small.0, refl),
+      (
+        (l.disk, small.1.0, refl),
+        (
+          (l.big, small.1.1.0, refl),
+          (
+            (l.inline_max, small.1.1.1.0, refl),
+            ((l.segment, small.1.1.1.1.0, refl), ((l.page, small.1.1.1.1.1.0, refl), ((l.chunk, small.1.1.1.1.1.1.0, refl), tt))),
+          ),
+        ),
+      ),
+    )
 
 limits_no_fault : (l : Limits) (fault : LineFault) → IsLimitsFault fault (map decimal (limit_numbers l)) → ⊥
 limits_no_fault l fault (inl row) = row_no_fault (kinds_of words.Limits) fault (map decimal (limit_numbers l)) (limits_spelled l) row

@@ -1,6 +1,5 @@
 -- The text of a number is plain digits, and plain digits are the text of their number.
 use Rattle.std.proofs.Common.{◌≡◌, ◌≢◌, ℕ, ℤ, FitsSigned, ◌<◌, ◌^◌, not, true, List, length, get_or, decimal, eqb, sym, ap, ◌∙◌, inl, inr, arith}
-use Rattle.std.specs.Fmt.{signed_decimal}
 use Rattle.std.specs.Int.{w64}
 use Rattle.std.specs.Str.Parse.{AllDigits, IsNumeral, digits_value, without_leading_plus}
 use lib.Signed.{mag}

@@ -1,5 +1,5 @@
 -- Parts that are read one after the other.
-use Rattle.std.proofs.Common.{◌≡◌, ℕ, ◌⊎◌, ◌<◌, ◌^◌, Some, IsSome, decimal, List, [], ◌∷◌, ◌++◌, length, map, IfOk, Result, Ok, Err, inl, inr, refl, sym, ap, ◌∙◌, subst, arith}
+use Rattle.std.proofs.Common.{◌≡◌, ℕ, ◌⊎◌, ◌<◌, ◌^◌, Some, IsSome, decimal, List, [], ◌∷◌, ◌++◌, length, map, IfOk, Result, Ok, Err, inl, inr, refl, sym, ap, ◌∙◌, subst}
 use Rattle.std.specs.List.{AllByRecursion}
 use Rattle.std.proofs.lemmas.List.{append_assoc, append-nil, map-append}
 use Rattle.blob_words.specs.Limits.{limit_fault}

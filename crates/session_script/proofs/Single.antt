@@ -1,10 +1,9 @@
 -- A line has at most one fault.
-use Rattle.std.proofs.Common.{◌≡◌, ◌≢◌, ℕ, ◌⊎◌, ◌<◌, ◌^◌, List, [], ◌∷◌, length, map, take, drop, decimal, inl, inr, refl, sym, ap, ◌∙◌, subst, arith}
+use Rattle.std.proofs.Common.{◌≡◌, ℕ, ◌⊎◌, ◌<◌, ◌^◌, List, [], ◌∷◌, map, take, drop, decimal, inl, inr, refl, sym, ◌∙◌, subst}
 use Rattle.std.specs.List.{AllByRecursion}
-use Rattle.session_script.specs.Fault.{IsPart, IsPartFault, IsFirstPartFault, AreNoLimits, IsBuildCount, IsBuildFault, IsLimitsFault, IsOwnFault, IsWordsFault, IsLineFault, kinds_of, kinds_of_letter}
-use Rattle.session_script.specs.Kind.{Kind, Spells, IsClass, IsFaultOf, AllSpell, IsFirstFault, IsRowFault, number_32, number_64, positive, len, place, name, origin, file_name, url_text, bytes, content_type, some_bytes, broken, ending, status, switch}
+use Rattle.session_script.specs.Fault.{IsPartFault, IsFirstPartFault, AreNoLimits, IsBuildCount, IsBuildFault, IsLimitsFault, IsOwnFault, IsWordsFault, IsLineFault, kinds_of, kinds_of_letter}
+use Rattle.session_script.specs.Kind.{Kind, IsClass, AllSpell, IsFirstFault, IsRowFault, number_32, number_64, positive, len, place, name, origin, file_name, url_text, bytes, content_type, some_bytes, broken, ending, status, switch}
 use Rattle.session_script.specs.Reading.{split}
-use Rattle.session_script.specs.Word.{word_text, letter_text}
 use Rattle.session_script.specs.declared.letter.Letter.{Letter}
 use Rattle.session_script.specs.declared.line_fault.LineFault.{LineFault}
 use Rattle.session_script.specs.declared.word.Word.{Word}

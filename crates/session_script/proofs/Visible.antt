@@ -1,17 +1,17 @@
 -- The bytes of fields are visible: none is a space or a line feed, and none in a part's fields is a colon.
-use Rattle.std.proofs.Common.{◌≡◌, ℕ, ◌<◌, ◌≤◌, ◌^◌, ◌⊎◌, true, false, map, List, [], ◌∷◌, ◌++◌, All, eqb, length, decimal, refl, sym, ap, ◌∙◌, lit≤, subst, arith}
+use Rattle.std.proofs.Common.{◌≡◌, ℕ, ◌<◌, ◌≤◌, ◌^◌, true, false, map, List, [], ◌∷◌, All, eqb, decimal, refl, sym, ◌∙◌, lit≤, subst, arith}
 use Rattle.std.specs.Prelude.{Bool, codes, nat_le, ◌==◌, ◌&&◌, ◌||◌}
 use Rattle.std.specs.List.{AllByRecursion, list_all, list_any}
 use Rattle.std.proofs.lemmas.Bool.{and_parts, ne_eqb, or_from}
 use Rattle.std.proofs.lemmas.Bool.Decides.{nat_tests}
 use Rattle.std.proofs.lemmas.List.Elements.{All-cons, All-nil, All-weaker, All-append}
 use Rattle.std.proofs.lemmas.List.Folds.{list_any-append, list_any_none}
-use Rattle.blob_words.specs.FileName.{is_file_name, is_file_name_byte}
-use Rattle.blob_words.specs.Origin.{is_origin, is_origin_byte}
-use Rattle.blob_words.specs.UrlText.{is_url_text, is_visible_byte}
+use Rattle.blob_words.specs.FileName.{is_file_name_byte}
+use Rattle.blob_words.specs.Origin.{is_origin_byte}
+use Rattle.blob_words.specs.UrlText.{is_visible_byte}
 use Rattle.blob_words.specs.declared.status.Status.{Status}
 use Rattle.blob_words.specs.declared.status.Status.TheVariants as statuses
-use Rattle.session_script.specs.Fault.{IsPart, kinds_of, kinds_of_letter}
+use Rattle.session_script.specs.Fault.{IsPart}
 use Rattle.session_script.specs.Fields.{fields, joined}
 use Rattle.session_script.specs.Kind.{Kind, Spells, AllSpell, number_32, number_64, positive, len, place, name, origin, file_name, url_text, bytes, content_type, some_bytes, broken, ending, status, switch}
 use Rattle.session_script.specs.Line.{letter_of, part_fields, part_text, PartHasText}
@@ -129,9 +129,10 @@ decimal_free n fits = decimal_all (λ byte. eqb byte 58 ≡ false) digits_free n
 part_free : (part : Part) → PartHasText part → AllByRecursion (HasNone 58) (part_fields part)
 part_free (parts.Embedded octets) fits = (hex_all (λ byte. eqb byte 58 ≡ false) digits_free octets fits, tt)
 part_free (parts.Asked n) fits = (decimal_free n fits, tt)
-part_free (parts.FileRange file off n stamp) fits =
-    (tested_all (λ byte. eqb byte 58 ≡ false) is_file_name_byte file_name_free file (and_parts _ (list_all is_file_name_byte file) fits.0).1,
-    (decimal_free off fits.1, (decimal_free n fits.2, (decimal_free stamp fits.3, tt))))
+part_free (parts.FileRange file off n stamp) fits = (
+  tested_all (λ byte. eqb byte 58 ≡ false) is_file_name_byte file_name_free file (and_parts _ (list_all is_file_name_byte file) fits.0).1,
+  (decimal_free off fits.1, (decimal_free n fits.2, (decimal_free stamp fits.3, tt))),
+)
 part_free (parts.BlobRange b off n) fits =
     (name_all (λ byte. eqb byte 58 ≡ false) digits_free b, (decimal_free off fits.1, (decimal_free n fits.2, tt)))
 part_free (parts.HandleRange k off n) fits =

@@ -3,7 +3,7 @@ use Rattle.std.specs.Prelude.{ℕ, ℤ, ◌≡◌, ◌≢◌, ◌⊎◌, FitsSig
 use Rattle.std.specs.Fmt.{signed_decimal}
 use Rattle.std.specs.Int.{w64}
 use Rattle.std.specs.List.{slice_split}
-use Rattle.session_script.specs.Kind.{Kind, IsFaultOf, IsFirstFault, IsRowFault}
+use Rattle.session_script.specs.Kind.{Kind, IsFirstFault}
 use Rattle.session_script.specs.declared.line_fault.LineFault.{LineFault}
 use Rattle.session_script.specs.declared.line_fault.LineFault.TheVariants as faults
 

@@ -117,15 +117,16 @@ fn read_gone(alloc: Global, fields: &mut Fields<'_>) -> Result<Event, LineFault>
 fn read_slice(alloc: Global, fields: &mut Fields<'_>) -> Result<Event, LineFault>
     ensures { ReadsEvent Word.Slice fields.old result }
 {
-    let (r, b, src, start, end, kind) = match fields.row::<(
-        RendererId,
-        BlobName,
-        BlobName,
-        Option<i64>,
-        Option<i64>,
-        ContentType,
-    )>(alloc)
-    {
+    let (r, b, src, start, end, kind) = match fields.row::<
+        (
+            RendererId,
+            BlobName,
+            BlobName,
+            Option<i64>,
+            Option<i64>,
+            ContentType,
+        ),
+    >(alloc) {
         Ok(values) => values,
         Err(fault) => return Err(fault),
     };

@@ -1,6 +1,7 @@
 //! Values put one after the other, each behind a separator.
 
-ghost use Rattle.std.specs.Prelude.{◌≡◌, ◌∷◌, [], map};
+ghost use Rattle.std.specs.Prelude.{◌≡◌, ◌∷◌, ◌++◌, [], map};
+ghost use Rattle.std.specs.List.{flat_map};
 ghost use Rattle.session_script.specs.Fields.{fields};
 ghost use Rattle.session_script.specs.Output.{output, IsPut};
 
@@ -163,4 +164,35 @@ pub fn put_seven<A: Spell, B: Spell, C: Spell, D: Spell, E: Spell, F: Spell, G: 
         Ok(()) => put_six(buffer, out, separator, b, c, d, e, f, g),
         Err(Failed) => Err(Failed),
     }
+}
+
+/// Puts a value and a line feed.
+pub fn put_line<A: Spell, K: Sink>(
+    buffer: &mut Buffer,
+    out: &mut K,
+    value: &A,
+) -> Result<(), Failed>
+    ensures { IsPut (output (K.held out.old) (K.faults out.old) buffer.old) (output (K.held out.new) (K.faults out.new) buffer.new) (A.spell value.now ++ 10 ∷ []) result }
+{
+    match value.put(buffer, out) {
+        Ok(()) => buffer.put_byte(out, b'\n'),
+        Err(Failed) => Err(Failed),
+    }
+}
+
+/// Puts each value of a list and a line feed behind it.
+pub fn put_lines<A: Spell, K: Sink>(
+    buffer: &mut Buffer,
+    out: &mut K,
+    items: &[A],
+) -> Result<(), Failed>
+    ensures { IsPut (output (K.held out.old) (K.faults out.old) buffer.old) (output (K.held out.new) (K.faults out.new) buffer.new) (flat_map (λ item. A.spell item ++ 10 ∷ []) items.now) result }
+{
+    for item in items {
+        match put_line(buffer, out, item) {
+            Ok(()) => {}
+            Err(Failed) => return Err(Failed),
+        }
+    }
+    Ok(())
 }

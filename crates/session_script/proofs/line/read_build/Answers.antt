@@ -1,4 +1,4 @@
-use Rattle.std.proofs.Common.{◌≡◌, ◌∷◌, [], refl, arith}
+use Rattle.std.proofs.Common.{refl, arith}
 use Rattle.session_script.proofs.Parts.{build_wrong}
 use Rattle.session_script.proofs.line.read_build.Goals as goal
 

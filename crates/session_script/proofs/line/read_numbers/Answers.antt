@@ -1,4 +1,4 @@
-use Rattle.std.proofs.Common.{◌≡◌, ◌∷◌, [], inr, refl}
+use Rattle.std.proofs.Common.{inr}
 use Rattle.session_script.proofs.Parts.{numbers_wrong}
 use Rattle.session_script.proofs.line.read_numbers.Goals as goal
 

@@ -1,5 +1,4 @@
-use Rattle.std.proofs.Common.{◌≡◌, ◌∷◌, length, sym, ap, ◌∙◌, arith}
-use Rattle.session_script.specs.Reading.{split}
+use Rattle.std.proofs.Common.{sym, ◌∙◌}
 use Rattle.session_script.proofs.Parts.{part_is, part_read}
 use Rattle.session_script.proofs.Splits.{split_not_empty}
 use Rattle.session_script.proofs.part.read_part.Goals as goal

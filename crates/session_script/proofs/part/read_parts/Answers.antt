@@ -1,5 +1,4 @@
-use Rattle.std.proofs.Common.{sym, ◌∙◌}
-use Rattle.session_script.proofs.Parts.{part_wrong, parts_more, parts_all}
+use Rattle.session_script.proofs.Parts.{part_wrong}
 use Rattle.session_script.proofs.part.read_parts.Goals as goal
 
 pub returns-in-Err : goal.returns-in-Err

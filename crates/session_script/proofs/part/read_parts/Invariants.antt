@@ -1,4 +1,4 @@
-use Rattle.std.proofs.Common.{◌≡◌, ◌++◌, length, map}
+use Rattle.std.proofs.Common.{length}
 use Rattle.session_script.proofs.Parts.{AreRead}
 use Rattle.session_script.proofs.part.read_parts.Given as goal
 

@@ -1,4 +1,4 @@
-use Rattle.std.proofs.Common.{ℕ, List, [], ◌∷◌, map, decimal, Err, ap}
+use Rattle.std.proofs.Common.{ℕ, List, [], ◌∷◌, map, decimal, ap}
 use Rattle.blob_words.specs.BlobName.{name_text}
 use Rattle.session_script.specs.Fields.{fields, hex_text}
 use Rattle.session_script.specs.declared.event.Part.{Part}

@@ -1,4 +1,4 @@
-use Rattle.std.proofs.Common.{◌≡◌, ◌∙◌}
+use Rattle.std.proofs.Common.{◌∙◌}
 use Rattle.session_script.proofs.Outputs.{flush_stops}
 use Rattle.session_script.proofs.buffer.Buffer.flush.Goals as goal
 

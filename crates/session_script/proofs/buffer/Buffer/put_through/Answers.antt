@@ -1,4 +1,4 @@
-use Rattle.std.proofs.Common.{◌≡◌, ◌++◌, sym, ◌∙◌}
+use Rattle.std.proofs.Common.{◌≡◌, ◌++◌, sym}
 use Rattle.std.proofs.lemmas.List.{take-append-drop}
 use Rattle.session_script.proofs.Outputs.{through_more, through_stops}
 use Rattle.session_script.proofs.buffer.Buffer.put_through.Goals as goal

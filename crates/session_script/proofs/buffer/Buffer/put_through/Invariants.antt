@@ -1,5 +1,4 @@
-use Rattle.std.proofs.Common.{◌≡◌, ◌≤◌, ◌++◌, [], List, ℕ, length}
-use Rattle.std.specs.Io.KnownBytes.{Appends}
+use Rattle.std.proofs.Common.{length}
 use Rattle.session_script.proofs.Outputs.{GoneThrough}
 use Rattle.session_script.proofs.buffer.Buffer.put_through.Given as goal
 

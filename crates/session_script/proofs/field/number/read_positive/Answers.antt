@@ -1,4 +1,4 @@
-use Rattle.std.proofs.Common.{◌^◌, sym, ◌∙◌, refl, arith}
+use Rattle.std.proofs.Common.{sym, ◌∙◌, refl, arith}
 use Rattle.std.proofs.lemmas.Fmt.{decimal_injective}
 use Rattle.session_script.specs.Kind.{Spells, positive}
 use Rattle.session_script.proofs.field.number.read_positive.Goals as goal

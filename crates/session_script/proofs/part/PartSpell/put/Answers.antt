@@ -1,5 +1,4 @@
-use Rattle.std.proofs.Common.{◌≡◌, ℕ, List, ap, ◌∙◌, subst}
-use Rattle.session_script.specs.Line.{letter_of}
+use Rattle.std.proofs.Common.{ap, ◌∙◌}
 use Rattle.session_script.specs.Word.{letter_text}
 use Rattle.session_script.proofs.Outputs.{word_then, word_stops}
 use Rattle.session_script.proofs.part.PartSpell.put.Goals as goal

@@ -1,4 +1,4 @@
-use Rattle.std.proofs.Common.{◌≡◌, [], ◌∷◌, Err, rules}
+use Rattle.std.proofs.Common.{◌≡◌, [], Err, rules}
 use Rattle.session_script.proofs.Rows.{first_wrong}
 use Rattle.session_script.proofs.row.Tuple1Row.read.Goals as goal
 

@@ -1,0 +1,10 @@
+use Rattle.std.proofs.Common.{ap, ◌∙◌}
+use Rattle.session_script.proofs.Outputs.{word_then, word_stops}
+use Rattle.answer_text.specs.Word.{word_text}
+use Rattle.answer_text.proofs.answer_writer.AnswerSpell.put.Goals as goal
+
+pub returns-in-Ok : goal.returns-in-Ok
+returns-in-Ok g c = word_then _ _ _ _ _ _ _ (c.text.ensures ∙ ap word_text c.word_of.ensures) c.in-Ok.ensures c.put_behind.ensures
+
+pub returns-in-Err : goal.returns-in-Err
+returns-in-Err g c = word_stops _ _ _ _ _ (c.text.ensures ∙ ap word_text c.word_of.ensures) c.in-Err.ensures

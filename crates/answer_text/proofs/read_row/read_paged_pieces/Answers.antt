@@ -1,5 +1,0 @@
-use Rattle.answer_text.proofs.Rows.{paged_refused}
-use Rattle.answer_text.proofs.read_row.read_paged_pieces.Goals as goal
-
-pub returns-in-Err : goal.returns-in-Err
-returns-in-Err c = paged_refused c.in-Err.fault c.args.fields.now c.in-Err.ensures

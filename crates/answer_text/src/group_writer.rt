@@ -1,0 +1,96 @@
+//! The groups of a transcript, put and printed.
+
+ghost use Rattle.std.specs.Prelude.{◌≡◌, ◌++◌, codes, OnOk, OnErr};
+ghost use Rattle.std.specs.List.{flat_map};
+ghost use Rattle.session_script.specs.Output.{output, IsPut, IsStreamed};
+ghost use Rattle.answer_text.specs.Text.{answer_line, event_line, group_text, tally_line, tally_text};
+
+use crate::answer::Answers;
+use crate::group::Group;
+use blob_source::Sink;
+use blob_words::{Failed, NoMemory, Octets, Tally};
+use session_script::Event;
+use session_script::buffer::Buffer;
+use session_script::field::Spell;
+use session_script::put::{put_four, put_line, put_lines};
+use session_script::stream::{print, stream};
+use std::alloc::Global;
+
+fn put_event_line<K: Sink>(buffer: &mut Buffer, out: &mut K, event: &Event) -> Result<(), Failed>
+    ensures { IsPut (output (K.held out.old) (K.faults out.old) buffer.old) (output (K.held out.new) (K.faults out.new) buffer.new) (event_line event.now) result }
+{
+    match buffer.put(out, b"> ") {
+        Ok(()) => put_line(buffer, out, event),
+        Err(Failed) => Err(Failed),
+    }
+}
+
+fn put_numbers<K: Sink>(buffer: &mut Buffer, out: &mut K, tally: &Tally) -> Result<(), Failed>
+    ensures { IsPut (output (K.held out.old) (K.faults out.old) buffer.old) (output (K.held out.new) (K.faults out.new) buffer.new) (tally_text tally.now) result }
+{
+    match buffer.put_byte(out, b'=') {
+        Ok(()) => put_four(
+            buffer,
+            out,
+            b' ',
+            &tally.pieces,
+            &tally.memory,
+            &tally.files,
+            &tally.disk,
+        ),
+        Err(Failed) => Err(Failed),
+    }
+}
+
+fn put_tally_line<K: Sink>(buffer: &mut Buffer, out: &mut K, tally: &Tally) -> Result<(), Failed>
+    ensures { IsPut (output (K.held out.old) (K.faults out.old) buffer.old) (output (K.held out.new) (K.faults out.new) buffer.new) (tally_line tally.now) result }
+{
+    match put_numbers(buffer, out, tally) {
+        Ok(()) => buffer.put_byte(out, b'\n'),
+        Err(Failed) => Err(Failed),
+    }
+}
+
+fn put_behind<K: Sink>(
+    buffer: &mut Buffer,
+    out: &mut K,
+    answers: &Answers,
+    tally: &Tally,
+) -> Result<(), Failed>
+    ensures { IsPut (output (K.held out.old) (K.faults out.old) buffer.old) (output (K.held out.new) (K.faults out.new) buffer.new) (flat_map answer_line answers.now ++ tally_line tally.now) result }
+{
+    match put_lines(buffer, out, answers.as_slice()) {
+        Ok(()) => put_tally_line(buffer, out, tally),
+        Err(Failed) => Err(Failed),
+    }
+}
+
+impl Spell for Group {
+    ghost use Rattle.answer_text.specs.Text.{group_text};
+
+    ghost spell = { group_text };
+
+    fn put<K: Sink>(&self, buffer: &mut Buffer, out: &mut K) -> Result<(), Failed> {
+        match put_event_line(buffer, out, &self.event) {
+            Ok(()) => put_behind(buffer, out, &self.answers, &self.tally),
+            Err(Failed) => Err(Failed),
+        }
+    }
+}
+
+/// Writes the text of a group in pieces of at most 4,096 bytes, and takes no memory. After
+/// `Failed`, which comes only where the sink's count rose, a front of the text was written that
+/// lacks some byte.
+pub fn stream_group<K: Sink>(group: &Group, out: &mut K) -> Result<(), Failed>
+    ensures { IsStreamed (K.held out.old) (K.held out.new) (K.faults out.old) (K.faults out.new) (group_text group.now) result }
+{
+    stream(group, out)
+}
+
+/// Puts the text of a group at the end of the bytes. After want of memory they are as they were.
+pub fn print_group(alloc: Global, group: &Group, out: &mut Octets) -> Result<(), NoMemory>
+    ensures ok { OnOk result (out.new ≡ out.old ++ group_text group.now) }
+    ensures err { OnErr result (out.new ≡ out.old) }
+{
+    print(alloc, group, out)
+}
