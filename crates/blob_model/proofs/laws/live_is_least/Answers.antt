@@ -1,0 +1,6 @@
+-- The law as it was proved.
+use Rattle.blob_model.proofs.LiveLemmas.{live_is_least}
+use Rattle.blob_model.proofs.laws.live_is_least.Goals as goal
+
+pub returns : goal.returns
+returns c = live_is_least

@@ -1,0 +1,6 @@
+-- The law as it was proved.
+use Rattle.blob_model.proofs.FrontLemmas.{more_legal}
+use Rattle.blob_model.proofs.laws.more_is_legal.Goals as goal
+
+pub returns : goal.returns
+returns c = more_legal

@@ -1,0 +1,69 @@
+-- What holds of the blobs of legal transcripts, and of liveness. File API: the size of a Blob is the number of its bytes.
+use Rattle.std.specs.Prelude.{◌≡◌, ◌≤◌, ◌<◌, ◌+◌, ℕ, ◌==◌, Bool, true, false, List, [], length, Some, None}
+use Rattle.std.specs.List.{AllByRecursion, list_any}
+use Rattle.blob_words.specs.declared.limits.Limits.{Limits}
+use Rattle.blob_words.specs.declared.plan.Plan.{Plan}
+use Rattle.transport_plan.specs.Spans.{IsEndToEnd, piece_count}
+use Rattle.blob_model.specs.Parts.{own_lengths, own_bytes, claims}
+use Rattle.blob_model.specs.Pieces.{spans_of}
+use Rattle.blob_words.specs.declared.counted.Counted.TheVariants as counted
+use Rattle.blob_words.specs.declared.number.RendererId.{RendererId}
+use Rattle.session_script.specs.declared.event.Event.TheVariants as events
+use Rattle.session_script.specs.declared.event.Part.{Part}
+use Rattle.answer_text.specs.declared.refusal.Refusal.TheVariants as refusals
+use Rattle.answer_text.specs.declared.group.Group.{Group}
+use Rattle.blob_model.specs.Session.{Session}
+use Rattle.blob_model.specs.History.{History, start, history_from}
+use Rattle.blob_model.specs.Renderers.{spawned, is_spawned, is_alive}
+use Rattle.blob_model.specs.Builds.{Build, builds, build_in, size}
+use Rattle.blob_model.specs.Standing.{is_unfinished}
+use Rattle.blob_model.specs.Live.{is_rooted, has_source, live, is_live}
+use Rattle.blob_model.specs.Construct.{line_status, plan_for}
+use Rattle.blob_model.specs.Refusals.{refusal, is_many_segments, piece_total}
+use Rattle.blob_model.specs.Legal.{IsLegalFrom}
+
+-- in a legal transcript each blob has as many cells as its size
+abbrev pub CellsAreSizes : Type 0
+CellsAreSizes =
+    (s : Session) (groups : List Group) → IsLegalFrom s start groups →
+    AllByRecursion (λ (build : Build). length build.cells ≡ size build) (builds s.limits.page (history_from start groups))
+
+-- names are closed where each rooted blob is among them, and each blob that an unfinished one of them takes bytes from
+pub record IsClosed (page : ℕ) (h : History) (among : ℕ → Bool) : Type 0 where
+  pub roots : (name : ℕ) → is_rooted page h name ≡ true → among name ≡ true
+  pub needed : (build : Build) (name : ℕ) → among build.name ≡ true → is_unfinished h build.name ≡ true → has_source build name ≡ true → among name ≡ true
+
+-- whatever is closed has every live blob
+abbrev pub LiveIsLeast : Type 0
+LiveIsLeast = (page : ℕ) (h : History) (among : ℕ → Bool) → IsClosed page h among → AllByRecursion (λ (build : Build). among build.name ≡ true) (live page h)
+
+-- each rooted blob that was built lives
+abbrev pub RootedLive : Type 0
+RootedLive =
+    (page : ℕ) (h : History) (name : ℕ) → list_any (λ (build : Build). build.name == name) (builds page h) ≡ true → is_rooted page h name ≡ true → is_live page h name ≡ true
+
+-- in a legal transcript whatever an unfinished live blob takes bytes from lives
+abbrev pub LiveIsClosed : Type 0
+LiveIsClosed =
+    (s : Session) (groups : List Group) → IsLegalFrom s start groups →
+    AllByRecursion
+    (λ (build : Build). is_unfinished (history_from start groups) build.name ≡ true → (source : ℕ) → has_source build source ≡ true → is_live s.limits.page (history_from start groups) source ≡ true)
+    (live s.limits.page (history_from start groups))
+
+-- the pieces of a blob stand end to end and cover each own byte once
+abbrev pub PiecesCover : Type 0
+PiecesCover = (l : Limits) (build : Build) (plan : Plan) → build.plan ≡ Some plan → IsEndToEnd 0 (spans_of l.page build) (own_bytes build.parts)
+
+-- a session has at most 1,024 renderers
+abbrev pub RenderersAreFew : Type 0
+RenderersAreFew =
+    (s : Session) (h : History) (renderer : RendererId) (origin : List ℕ) → is_spawned h renderer.0 ≡ false → 1024 ≤ length (spawned h) →
+    refusal s h (events.Spawn renderer origin) ≡ Some (refusals.TooMany counted.Renderers)
+
+-- a session has at most 65,536 pieces: a build with which there would be more is refused, where nothing refuses or breaks it before
+abbrev pub PiecesAreFew : Type 0
+PiecesAreFew =
+    (s : Session) (h : History) (renderer : RendererId) (name : ℕ) (kind : List ℕ) (parts : List Part) → is_alive h renderer.0 ≡ true → build_in (builds s.limits.page h) name ≡ None → claims parts ≡ [] →
+    length (builds s.limits.page h) < 65536 → line_status s h renderer.0 name parts ≡ None → is_many_segments (plan_for s h parts) ≡ false →
+    65536 < piece_total s h + piece_count s.limits.page (own_lengths parts) →
+    refusal s h (events.Build renderer name kind parts) ≡ Some (refusals.TooMany counted.Pieces)

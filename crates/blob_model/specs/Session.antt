@@ -1,0 +1,20 @@
+-- What is fixed for a session: its limits and version, and the objects of the outside. Own.
+use Rattle.std.specs.Prelude.{ℕ, Bool, List, Option}
+use Rattle.blob_words.specs.declared.limits.Limits.{Limits}
+use Rattle.blob_words.specs.declared.version.Version.{Version}
+
+-- a data handle as it is lent: its size, and its bytes where it tells them
+pub record Slot : Type 0 where
+  pub size : ℕ
+  pub bytes : Option (List ℕ)
+
+-- the outside as the first line finds it: the data handles, slot by slot, and whether the page disk tells what changes on it
+pub record Outside : Type 0 where
+  pub slots : List Slot
+  pub disk_tells : Bool
+
+-- a session: what its first line states, and the outside
+pub record Session : Type 0 where
+  pub limits : Limits
+  pub version : Version
+  pub outside : Outside
