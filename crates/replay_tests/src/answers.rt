@@ -27,18 +27,21 @@ fn behind_limits(
 #[test]
 fn a_first_line_states_the_limits(rt: HostRuntime) -> Result<(), Fail> {
     let sessions = [
-        "\n",
-        "end\n",
-        "spawn 1 https://a.test\n",
-        "limits 0 64 32 16 4 8 2\n",
-        "limits 64 64 32 16 4 8\n",
-        "limits 64 64 32 16 4 8 2\r\n",
-        "limits 64 64 32 16 4 8 02\n",
+        ("limits", "! 1 unended\n"),
+        ("\n", "! 1 word\n"),
+        ("end\n", "! 1 first\n"),
+        ("spawn 1 https://a.test\n", "! 1 first\n"),
+        ("spawn 1 null\n", "! 1 name\n"),
+        ("limits2 64 64 32 16 4 8 2\n", "! 1 unbuilt\n"),
+        ("limits 0 64 32 16 4 8 2\n", "! 1 limits\n"),
+        ("limits 64 64 32 16 4 8\n", "! 1 fields\n"),
+        ("limits 64 64 32 16 4 8 2\r\n", "! 1 number\n"),
+        ("limits 64 64 32 16 4 8 02\n", "! 1 number\n"),
     ];
-    for session in sessions {
+    for (session, text) in sessions {
         let outcome = replayed(rt.alloc(), session.as_bytes(), usize::MAX, None, None)?;
         assert_eq!(rt; outcome.status, 2);
-        assert_eq!(rt; outcome.sink.bytes(), b"! 1 unbuilt\n".as_slice());
+        assert_eq!(rt; outcome.sink.bytes(), text.as_bytes());
     }
     Ok(())
 }
@@ -46,20 +49,40 @@ fn a_first_line_states_the_limits(rt: HostRuntime) -> Result<(), Fail> {
 #[test]
 fn other_lines_are_refused(rt: HostRuntime) -> Result<(), Fail> {
     let lines = [
-        "\n",
-        "limits 64 64 32 16 4 4 8\n",
-        "tally\n",
-        "spawn 1 null\n",
-        "spawn 01 https://a.test\n",
-        "step 7 \n",
-        "step 4294967296\n",
-        "end\0\n",
-        "end",
+        ("\n", "! 2 word\n"),
+        ("end\0\n", "! 2 word\n"),
+        ("step 7 \n", "! 2 fields\n"),
+        ("spawn 01 https://a.test\n", "! 2 number\n"),
+        ("step 4294967296\n", "! 2 number\n"),
+        ("data 1 00000000-0000-0000-0000-000000000001 0 6A\n", "! 2 hex\n"),
+        ("spawn 1 null\n", "! 2 name\n"),
+        ("limits 64 64 32 16 4 4 65537\n", "! 2 limits\n"),
+        ("limits 64 64 32 16 4 4 8\n", "! 2 unbuilt\n"),
+        ("tally\n", "! 2 unbuilt\n"),
+        ("end", "! 2 unended\n"),
     ];
-    for line in lines {
-        behind_limits(&rt, rt.alloc(), line, 2, "! 2 unbuilt\n")?;
+    for (line, text) in lines {
+        behind_limits(&rt, rt.alloc(), line, 2, text)?;
     }
     Ok(())
+}
+
+#[test]
+fn digits_of_a_part_come_in_pairs(rt: HostRuntime) -> Result<(), Fail> {
+    let lines = "spawn 1 https://a.test\nbuild 1 00000000-0000-0000-0000-000000000001 - b:61626\n";
+    let text = "> spawn 1 https://a.test\nok\n= 0 0 0 0\n! 3 hex\n";
+    behind_limits(&rt, rt.alloc(), lines, 2, text)
+}
+
+#[test]
+fn a_content_type_has_a_bound(rt: HostRuntime) -> Result<(), Fail> {
+    let heap = rt.alloc();
+    let mut line = String::from_str(heap, "build 1 00000000-0000-0000-0000-000000000001 ")?;
+    for _ in 0..256 {
+        line.push_str("61")?;
+    }
+    line.push_str("\n")?;
+    behind_limits(&rt, heap, line.as_str(), 2, "! 2 type\n")
 }
 
 #[test]
@@ -67,7 +90,7 @@ fn a_line_has_a_bound(rt: HostRuntime) -> Result<(), Fail> {
     let long = vec![in rt.alloc(); b'x'; (1 << 20) + 1]?;
     let outcome = replayed(rt.alloc(), long.as_slice(), usize::MAX, None, None)?;
     assert_eq!(rt; outcome.status, 2);
-    assert_eq!(rt; outcome.sink.bytes(), b"! 1 unbuilt\n".as_slice());
+    assert_eq!(rt; outcome.sink.bytes(), b"! 1 long\n".as_slice());
     Ok(())
 }
 
@@ -130,6 +153,27 @@ fn lines_that_are_to_come_are_unbuilt(rt: HostRuntime) -> Result<(), Fail> {
         // another content type than none
         "build 1 00000000-0000-0000-0000-000000000002 61\n",
         "slice 1 00000000-0000-0000-0000-000000000002 00000000-0000-0000-0000-000000000001 0 _ -\n",
+        // bytes that come otherwise than in the line
+        "build 1 00000000-0000-0000-0000-000000000002 - n:1\n",
+        "build 1 00000000-0000-0000-0000-000000000002 - b:61 f:a:0:1:0\n",
+        "build 1 00000000-0000-0000-0000-000000000002 - s:00000000-0000-0000-0000-000000000001:0:1\n",
+        "build 1 00000000-0000-0000-0000-000000000002 - h:0:0:1\n",
+        // even where the renderer isn't there
+        "build 2 00000000-0000-0000-0000-000000000002 61\n",
+        // lines that are to come
+        "die 1\n",
+        "file a 1 61\n",
+        "gone a\n",
+        "data 1 00000000-0000-0000-0000-000000000001 0 61\n",
+        "pass 1 2 00000000-0000-0000-0000-000000000001\n",
+        "stat 1 00000000-0000-0000-0000-000000000001\n",
+        "url 1 00000000-0000-0000-0000-000000000001 blob:a\n",
+        "revoke 1 blob:a\n",
+        "fetch 1 8 blob:a 0 _\n",
+        "cancel 1 7\n",
+        "disk 0\n",
+        "lost 0\n",
+        "limits2 64 64 32 16 4 4 8\n",
     ];
     for line in lines {
         let lines = format!(in heap; "{STARTED}{line}")?;

@@ -1,6 +1,10 @@
-//! Tests of the crates below the store: words, sources and sinks.
+//! Tests of the crates below the store: words, sources, sinks, and the texts of events and groups.
 #![tactic(auto)]
 
+#[cfg(test)]
+mod groups;
+#[cfg(test)]
+mod line_faults;
 #[cfg(test)]
 mod lines;
 #[cfg(test)]
