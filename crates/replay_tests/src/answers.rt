@@ -54,7 +54,10 @@ fn other_lines_are_refused(rt: HostRuntime) -> Result<(), Fail> {
         ("step 7 \n", "! 2 fields\n"),
         ("spawn 01 https://a.test\n", "! 2 number\n"),
         ("step 4294967296\n", "! 2 number\n"),
-        ("data 1 00000000-0000-0000-0000-000000000001 0 6A\n", "! 2 hex\n"),
+        (
+            "data 1 00000000-0000-0000-0000-000000000001 0 6A\n",
+            "! 2 hex\n",
+        ),
         ("spawn 1 null\n", "! 2 name\n"),
         ("limits 64 64 32 16 4 4 65537\n", "! 2 limits\n"),
         ("limits 64 64 32 16 4 4 8\n", "! 2 unbuilt\n"),

@@ -103,7 +103,10 @@ const FORMLESS: [(&str, usize); 22] = [
     ("> end\nOK\n= 0 0 0 0\n", 6),
     ("> end\nbytes 7 -\n= 0 0 0 0\n", 6),
     ("> end\nbytes 7 6A\n= 0 0 0 0\n", 6),
-    ("> end\nbroken 00000000-0000-0000-0000-000000000001 done\n= 0 0 0 0\n", 6),
+    (
+        "> end\nbroken 00000000-0000-0000-0000-000000000001 done\n= 0 0 0 0\n",
+        6,
+    ),
     ("> end\nend 7 pending-quota\n= 0 0 0 0\n", 6),
     ("> end\nrefused\n= 0 0 0 0\n", 6),
     ("> end\nrefused too-many files 16385\n= 0 0 0 0\n", 6),
@@ -131,7 +134,11 @@ fn each_answer_is_read_and_printed_back(rt: HostRuntime) -> Result<(), Fail> {
     let heap = rt.alloc();
     for answer in ANSWERS.iter() {
         let text = format!(in heap; "> end\n{answer}\n= 1 2 3 4\n> end\n")?;
-        assert_eq!(rt; read_back(&rt, heap, text.as_bytes())?, text.len() - 6, "{answer}");
+        assert_eq!(rt;
+            read_back(&rt, heap, text.as_bytes())?,
+            text.len() - 6,
+            "{answer}"
+        );
     }
     Ok(())
 }

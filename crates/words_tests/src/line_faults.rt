@@ -276,7 +276,8 @@ fn repeated(heap: Global, front: &str, middle: &str, count: usize) -> Result<Str
 fn fields_have_their_lengths(rt: HostRuntime) -> Result<(), Fail> {
     let heap = rt.alloc();
     let build = "build 1 00000000-0000-0000-0000-000000000001 ";
-    let slice = "slice 1 00000000-0000-0000-0000-000000000002 00000000-0000-0000-0000-000000000001 _ _ ";
+    let slice =
+        "slice 1 00000000-0000-0000-0000-000000000002 00000000-0000-0000-0000-000000000001 _ _ ";
     let cases = [
         (build, "61", 255, None),
         (build, "61", 256, Some(LineFault::Type)),
@@ -289,8 +290,18 @@ fn fields_have_their_lengths(rt: HostRuntime) -> Result<(), Fail> {
         ("gone ", "a", 256, Some(LineFault::Name)),
         ("revoke 1 ", "a", 512, None),
         ("revoke 1 ", "a", 513, Some(LineFault::Name)),
-        ("build 1 00000000-0000-0000-0000-000000000001 -", " n:1", 1024, None),
-        ("build 1 00000000-0000-0000-0000-000000000001 -", " n:1", 1025, Some(LineFault::Fields)),
+        (
+            "build 1 00000000-0000-0000-0000-000000000001 -",
+            " n:1",
+            1024,
+            None,
+        ),
+        (
+            "build 1 00000000-0000-0000-0000-000000000001 -",
+            " n:1",
+            1025,
+            Some(LineFault::Fields),
+        ),
         ("build 1 x -", " x", 1025, Some(LineFault::Fields)),
     ];
     for (front, middle, count, fault) in cases {

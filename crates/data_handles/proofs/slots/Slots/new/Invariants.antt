@@ -1,0 +1,7 @@
+use Rattle.std.proofs.Common.{◌≡◌, false, map, Some}
+use Rattle.data_handles.specs.Slots.{slot_of}
+use Rattle.data_handles.proofs.slots.Slots.new.Given as goal
+
+-- a slot for each object so far
+abbrev pub invariant-loop-object : goal.invariant-loop-object
+invariant-loop-object g l = map (slot_of g.H.DataHandle.seen) l.slots.items ≡ map (λ handle. record { is_claimed = false; object = Some handle }) (map g.H.DataHandle.seen l.yielded)

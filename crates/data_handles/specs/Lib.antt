@@ -1,0 +1,4 @@
+pub mod Handles
+pub mod Table
+pub mod Slots
+pub mod Boxes

@@ -1,0 +1,109 @@
+ghost use Rattle.std.specs.Prelude.{◌≡◌, ◌+◌, ◌*◌, ◌^◌, ◌<◌, ◌≤◌, true, drop, if◌then◌else◌, is_some, length, map, sum_by, take, false, ◌||◌, IfOk, IfSome, IsSome, IsSomeAnd, IfErr, MatchResult, OnErr, OnOk};
+ghost use Rattle.blob_source.specs.Faults.{Rose};
+
+use crate::fault::SlotFault;
+use crate::handle::DataHandle;
+use crate::place::Place;
+use blob_words::{Failed, NoMemory};
+use std::alloc::Global;
+
+// A table of objects of one kind.
+#[derive(Drop)]
+pub struct Slots<H> {
+    pub slots: Vec<Place<H>>,
+    // The counts of the objects that were dropped.
+    pub past: u128,
+    ghost past_fits: { past ≤ 2 ^ 64 * sum_by (λ place. if is_some place.object then 0 else 1) slots.items },
+}
+
+impl<H: DataHandle> Slots<H> {
+    ghost use Rattle.data_handles.specs.Table.{claimed_at, count_of, counted_at, faults_at, is_claimed_at, new_table, object_at, released_at, SlotFaultAt};
+    ghost use Rattle.data_handles.specs.Slots.{of_slots};
+
+    // The objects in their order, none of them claimed.
+    pub fn new(alloc: Global, objects: Vec<H>) -> Result<Slots<H>, NoMemory>
+        ensures { IfOk result (λ table. of_slots H.seen table ≡ new_table (map H.seen objects.items)) }
+    {
+        let mut slots = Vec::with_capacity(alloc, objects.len())?;
+        for object in objects {
+            slots.push(Place::new(object))?;
+        }
+        Ok(Slots { slots, past: 0 })
+    }
+
+    // The size of the object in a slot that wasn't claimed.
+    pub fn size_of(&self, k: u32) -> Result<u64, SlotFault>
+        ensures { MatchResult result
+            (λ size. (is_claimed_at (of_slots H.seen self.now) k ≡ false)
+            × IsSomeAnd (object_at (of_slots H.seen self.now) k) (λ handle. handle.size ≡ size))
+            (SlotFaultAt (of_slots H.seen self.now) k) }
+    {
+        match self.slots.get(k as usize) {
+            Some(place) => match place.size() {
+                Some(size) => Ok(size),
+                None => Err(SlotFault::Claimed),
+            },
+            None => Err(SlotFault::NoSuch),
+        }
+    }
+
+    // Claims a slot.
+    pub fn claim(&mut self, k: u32) -> Result<u64, SlotFault>
+        ensures ok { IfOk result (λ size. (is_claimed_at (of_slots H.seen self.old) k ≡ false)
+            × IsSomeAnd (object_at (of_slots H.seen self.old) k) (λ handle. handle.size ≡ size)
+            × (of_slots H.seen self.new ≡ claimed_at (of_slots H.seen self.old) k)) }
+        ensures err { IfErr result (λ fault. SlotFaultAt (of_slots H.seen self.old) k fault
+            × (of_slots H.seen self.new ≡ of_slots H.seen self.old)) }
+    {
+        let size = self.size_of(k)?;
+        self.slots[k as usize].claim();
+        Ok(size)
+    }
+
+    // Reads through the object in a slot.
+    pub fn read(&mut self, k: u32, off: u64, out: &mut [u8]) -> Result<(), Failed>
+        requires { IsSomeAnd (object_at (of_slots H.seen self.old) k)
+            (λ handle. off + length out.old ≤ handle.size) }
+        ensures rest { of_slots H.seen self.new ≡ counted_at (of_slots H.seen self.old) k
+            (faults_at (of_slots H.seen self.new) k) }
+        ensures bytes { OnOk result (IsSomeAnd (object_at (of_slots H.seen self.old) k)
+            (λ handle. IfSome handle.told (λ bytes. out.new ≡ take (length out.old) (drop off bytes)))) }
+        ensures failed { OnErr result (Rose (faults_at (of_slots H.seen self.old) k)
+            (faults_at (of_slots H.seen self.new) k)) }
+        ensures later { faults_at (of_slots H.seen self.old) k ≤ faults_at (of_slots H.seen self.new) k }
+    {
+        self.slots[k as usize].read(off, out)
+    }
+
+    // Drops the object in a slot that is claimed.
+    pub fn release(&mut self, k: u32)
+        requires claimed { is_claimed_at (of_slots H.seen self.old) k ≡ true }
+        requires held { IsSome (object_at (of_slots H.seen self.old) k) }
+        ensures rest { of_slots H.seen self.new ≡ released_at (of_slots H.seen self.old) k }
+        ensures count { count_of (of_slots H.seen self.new) ≡ count_of (of_slots H.seen self.old) }
+    {
+        let faults = self.slots[k as usize].release();
+        self.past += u128::from(faults);
+    }
+
+    // Whether a slot holds an object.
+    pub fn held(&self, k: u32) -> bool
+        ensures { result ≡ is_some (object_at (of_slots H.seen self.now) k) }
+    {
+        match self.slots.get(k as usize) {
+            Some(place) => place.is_held(),
+            None => false,
+        }
+    }
+
+    // The count of the table.
+    pub fn faults(&self) -> u128
+        ensures { result ≡ count_of (of_slots H.seen self.now) }
+    {
+        let mut count = self.past;
+        for place in &self.slots {
+            count += u128::from(place.faults());
+        }
+        count
+    }
+}

@@ -1,0 +1,60 @@
+-- A map with bytes as its keys, seen with the bytes themselves: what a look-up, an insertion and a write say of it.
+use Rattle.std.proofs.Common.{◌≡◌, ℕ, cond, List, [], ◌∷◌, Some, None, map, refl, ap, subst}
+use Rattle.std.specs.Prelude.{IsSome, Vec}
+use Rattle.std.specs.declared.alloc.Global.{Global}
+use Rattle.std.specs.List.{AllByRecursion}
+use Rattle.std.specs.List.Sorted.{IsStrictlySortedBy}
+use Rattle.std.specs.declared.cmp.Ordering.{Ordering}
+use Rattle.std.specs.declared.cmp.Ordering.TheVariants.{Less, Equal, Greater}
+use Rattle.std.specs.Ordering.{is_eq, match_ordering, nat_cmp}
+use Rattle.std.specs.Cmp.Lexicographic.{slice_cmp, nat_list_cmp_total}
+use Rattle.std.specs.Str.{bytes_eq}
+use Rattle.std.specs.Map.{keys_of, lookup, set_value}
+use Rattle.std.specs.BTreeMap.{insert_entry, is_at}
+use Rattle.std.proofs.lemmas.Map.Keys.{sorted_head, sorted_tail}
+use Rattle.std.proofs.lemmas.Map.Text.{is_eq-slice_cmp}
+use Rattle.file_table.specs.Keys.{key_cmp, order_of}
+
+module _ {V : Type 0} where
+  -- the entries with their keys' bytes
+  abbrev pub seen : List (Vec ℕ Global × V) → List (List ℕ × V)
+  seen entries = map (λ entry. (entry.0.items, entry.1)) entries
+
+  pub lookup_seen : (name : List ℕ) (entries : List (Vec ℕ Global × V)) → lookup (is_at (order_of name)) entries ≡ lookup (bytes_eq name) (seen entries)
+  lookup_seen name [] = refl
+  lookup_seen name (entry ∷ entries) =
+      let same = is_eq-slice_cmp name entry.0.items in
+      let rest = lookup_seen name entries in
+      λ i. cond (same i) (Some entry.1) (rest i)
+
+  pub insert_seen : (key : Vec ℕ Global) (value : V) (entries : List (Vec ℕ Global × V)) → seen (insert_entry key_cmp entries key value) ≡ insert_entry (slice_cmp nat_cmp) (seen entries) key.items value
+  insert_seen key value [] = refl
+  insert_seen key value (entry ∷ entries) = by (key_cmp key entry.0) (insert_seen key value entries)
+    where
+      by : (r : Ordering) → seen (insert_entry key_cmp entries key value) ≡ insert_entry (slice_cmp nat_cmp) (seen entries) key.items value
+          → seen (match_ordering r ((key, value) ∷ entry ∷ entries) ((entry.0, value) ∷ entries) (entry ∷ insert_entry key_cmp entries key value))
+          ≡ match_ordering r ((key.items, value) ∷ seen (entry ∷ entries)) ((entry.0.items, value) ∷ seen entries) ((entry.0.items, entry.1) ∷ insert_entry (slice_cmp nat_cmp) (seen entries) key.items value)
+      by Less rest = refl
+      by Equal rest = refl
+      by Greater rest = ap (λ more. (entry.0.items, entry.1) ∷ more) rest
+
+  -- a name below a key is none of those after the key
+  none_after : (name : List ℕ) (key : Vec ℕ Global) (entries : List (Vec ℕ Global × V)) → order_of name key ≡ Less → AllByRecursion (λ later. key_cmp key later ≡ Less) (keys_of entries) → lookup (is_at (order_of name)) entries ≡ None
+  none_after name key [] below later = refl
+  none_after name key (entry ∷ entries) below later =
+      let apart : order_of name entry.0 ≡ Less = nat_list_cmp_total.trans name key.items entry.0.items below later.0 in
+      rw apart (none_after name key entries below later.1)
+
+  -- a value that is written at a key that is there goes where an insertion would put it
+  pub written_seen : (name : List ℕ) (value : V) (entries : List (Vec ℕ Global × V)) → IsStrictlySortedBy key_cmp (keys_of entries) → IsSome (lookup (is_at (order_of name)) entries)
+      → seen (set_value (is_at (order_of name)) entries value) ≡ insert_entry (slice_cmp nat_cmp) (seen entries) name value
+  written_seen name value [] sorted some = cc
+  written_seen name value (entry ∷ entries) sorted some = by (order_of name entry.0) refl some (written_seen name value entries (sorted_tail key_cmp entry.0 (keys_of entries) sorted))
+    where
+      by : (r : Ordering) → order_of name entry.0 ≡ r → IsSome (cond (is_eq r) (Some entry.1) (lookup (is_at (order_of name)) entries))
+          → (IsSome (lookup (is_at (order_of name)) entries) → seen (set_value (is_at (order_of name)) entries value) ≡ insert_entry (slice_cmp nat_cmp) (seen entries) name value)
+          → seen (cond (is_eq r) ((entry.0, value) ∷ entries) (entry ∷ set_value (is_at (order_of name)) entries value))
+          ≡ match_ordering r ((name, value) ∷ seen (entry ∷ entries)) ((entry.0.items, value) ∷ seen entries) ((entry.0.items, entry.1) ∷ insert_entry (slice_cmp nat_cmp) (seen entries) name value)
+      by Less is some rest = let none = none_after name entry.0 entries is (sorted_head key_cmp entry.0 (keys_of entries) sorted) in let found = subst IsSome none some in cc
+      by Equal is some rest = refl
+      by Greater is some rest = ap (λ more. (entry.0.items, entry.1) ∷ more) (rest some)

@@ -1,0 +1,20 @@
+use Rattle.std.proofs.Common.{ℕ, List, ap, ◌∙◌, subst}
+use Rattle.std.specs.List.Sorted.{IsStrictlySortedBy}
+use Rattle.std.specs.Ordering.{nat_cmp}
+use Rattle.std.specs.Cmp.Lexicographic.{slice_cmp}
+use Rattle.std.specs.Map.{keys_of}
+use Rattle.url_store.specs.declared.url.Url.{Url}
+use Rattle.url_store.specs.Urls.{url_at, without}
+use Rattle.url_store.proofs.Seen.{lookup_seen, remove_seen, seen, sorted_seen}
+use Rattle.url_store.proofs.url_map.UrlMap.remove.Goals as goal
+
+pub returns-clause-value : goal.returns-clause-value
+returns-clause-value c = c.remove.ensures.value ∙ lookup_seen c.args.text.now c.self.inside.urls.entries ∙ ap (url_at c.args.text.now) c.self.view_is
+
+pub returns-clause-rest : goal.returns-clause-rest
+returns-clause-rest c =
+    ap seen c.remove.ensures.entries ∙ remove_seen c.args.text.now c.self.inside.urls.entries ∙ ap (without c.args.text.now) c.self.view_is
+
+pub returns-clause-ordered : goal.returns-clause-ordered
+returns-clause-ordered c =
+    subst (λ (urls : List (List ℕ × Url)). IsStrictlySortedBy (slice_cmp nat_cmp) (keys_of urls)) c.self.view_is (sorted_seen c.self.inside.urls.entries c.len-count.ensures.ordered)

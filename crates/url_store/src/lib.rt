@@ -1,0 +1,13 @@
+//! The blob URLs of a session.
+#![tactic(auto)]
+
+pub mod fault;
+mod form;
+mod owners;
+pub mod store;
+pub mod texts;
+pub mod url;
+pub mod url_map;
+
+pub use fault::{NoUrl, UrlFault};
+pub use store::UrlStore;
