@@ -8,6 +8,7 @@ ghost use Rattle.session_script.specs.Reading.{split, split_rest, IsReading, IsT
 use crate::field::Field;
 use crate::line_fault::LineFault;
 use crate::row::Row;
+use memchr::memchr;
 use std::alloc::Global;
 use std::marker::Model;
 
@@ -31,7 +32,7 @@ impl<'a> Model for Fields<'a> {
 fn find_separator(separator: u8, text: &[u8]) -> Option<usize>
     ensures { result ≡ position (λ byte. byte == separator) text.now }
 {
-    text.iter().position(|byte| *byte == separator)
+    memchr(separator, text)
 }
 
 fn count_separators(separator: u8, text: &[u8]) -> usize

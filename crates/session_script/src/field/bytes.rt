@@ -17,7 +17,7 @@ use blob_words::{Failed, Octets};
 use std::alloc::Global;
 
 /// The most bytes that are turned into digits at once.
-const CHUNK: usize = 64;
+const CHUNK: usize = 1024;
 
 /// The most bytes of a content type.
 const MAX_CONTENT_TYPE: usize = 255;
@@ -33,7 +33,7 @@ pub struct SomeOctets(pub Octets);
 fn is_lower_digit(byte: u8) -> bool
     ensures { result ≡ is_lower_digit byte }
 {
-    byte.is_ascii_digit() || (b'a'..=b'f').contains(&byte)
+    matches!(byte, b'0'..=b'9' | b'a'..=b'f')
 }
 
 fn are_lower_digits(text: &[u8]) -> bool
@@ -89,10 +89,10 @@ fn put_digits<K: Sink>(buffer: &mut Buffer, out: &mut K, bytes: &[u8]) -> Result
 }
 
 fn put_chunk<K: Sink>(buffer: &mut Buffer, out: &mut K, chunk: &[u8]) -> Result<(), Failed>
-    requires { length chunk.now ≤ 64 }
+    requires { length chunk.now ≤ 1024 }
     ensures { IsPut (output (K.held out.old) (K.faults out.old) buffer.old) (output (K.held out.new) (K.faults out.new) buffer.new) (encode_lower chunk.now) result }
 {
-    let mut digits = [0u8; 128];
+    let mut digits = [0u8; 2048];
     let text = &mut digits[..2 * chunk.len()];
     let _ = hex::encode_to_slice(chunk, &mut *text);
     buffer.put(out, &*text)
