@@ -29,10 +29,12 @@ use Rattle.blob_model.proofs.VictimLemmas.{filter_less}
 use Rattle.blob_model.proofs.JobDisk.{filter_all}
 use Rattle.blob_model.proofs.StockLemmas.{flying, is_listed, is_filed, Known, Stocked, reaches, charge_with, disk_as, listed_by}
 
+-- what all have those of the second list have
 all_second : {X : Type 0} (P : X → Type 0) (xs ys : List X) → AllByRecursion P (xs ++ ys) → AllByRecursion P ys
 all_second P [] ys all = all
 all_second P (x ∷ xs) ys all = all_second P xs ys all.1
 
+-- a place in the first of two lists
 get_append : {X : Type 0} (xs ys : List X) (k : ℕ) (x : X) → slice_get xs k ≡ Some x → slice_get (xs ++ ys) k ≡ Some x
 get_append [] ys k x e = cc
 get_append (y ∷ xs) ys zero x e = e
@@ -49,6 +51,7 @@ sum_both {X = X} f' f p' p (x ∷ xs) all = go (p' x) (p x) all.0.1 (sum_both f'
     go false true e rest = let right = sum_by-cons f x (filter p xs) in omega (arith, right, rest)
     go false false e rest = rest
 
+-- equal values have equal sums
 sum_same : (f g : ℕ → ℕ) (xs : List ℕ) → AllByRecursion (λ (x : ℕ). f x ≡ g x) xs → sum_by f xs ≡ sum_by g xs
 sum_same f g [] all = refl
 sum_same f g (x ∷ xs) all = let left = sum_by-cons f x xs in let right = sum_by-cons g x xs in let here = all.0 in let rest = sum_same f g xs all.1 in omega (arith, left, right, here, rest)

@@ -26,6 +26,7 @@ sum_up {X = X} f p q (x ∷ xs) all = go (p x) (q x) all.0 (sum_up f p q xs all.
     go false true e rest = let right = sum_by-cons f x (filter q xs) in omega (arith, right, rest)
     go false false e rest = rest
 
+-- a list has as many items as the sum of ones
 ones : {X : Type 0} (xs : List X) → sum_by (λ (x : X). 1) xs ≡ length xs
 ones [] = refl
 ones {X = X} (x ∷ xs) = let rest = ones xs in let whole = sum_by-cons (λ (y : X). 1) x xs in omega (arith, rest, whole)
@@ -40,6 +41,7 @@ some_up {X = X} p' q' p q xs all e =
     let here : 0 < length (filter p' (filter q' xs)) = ltb-true 0 (length (filter p' (filter q' xs))) e in
     lt-ltb 0 (length (filter p (filter q xs))) (omega (arith, low, left, right, here))
 
+-- an item that passes a test among those that pass one filter is among those that pass another
 pub any_filtered : {X : Type 0} (t r' r : X → Bool) (xs : List X) → AllByRecursion (λ (x : X). t x ≡ true → r' x ≡ true → r x ≡ true) xs → list_any t (filter r' xs) ≡ true → list_any t (filter r xs) ≡ true
 any_filtered t r' r [] all e = e
 any_filtered {X = X} t r' r (x ∷ xs) all e = go (r' x) (r x) (t x) refl all.0 e (any_filtered t r' r xs all.1)
@@ -63,6 +65,11 @@ all_members (x ∷ xs) = (
   for_each (λ (n : ℕ). list_any (λ (each : ℕ). each == n) xs ≡ true) (λ (n : ℕ). list_any (λ (each : ℕ). each == n) (x ∷ xs) ≡ true) xs (λ n e. or_second (x == n) (list_any (λ (each : ℕ). each == n) xs) e) (all_members xs),
 )
 
+-- what each piece has, all of a list have
+pub each_piece : {P : Piece → Type 0} (list : List Piece) → ((piece : Piece) → P piece) → AllByRecursion P list
+each_piece [] f = tt
+each_piece (piece ∷ list) f = (f piece, each_piece list f)
+
 -- ---- the three parts of the charge
 
 abbrev pub place_at : List Page → List Build → Piece → Place
@@ -71,18 +78,22 @@ place_at written blobs piece = place_by (page_with written piece.number) (build_
 abbrev pub has_some : List Page → List Build → List Piece → Page → Bool
 has_some written blobs list file = nat_lt 0 (length (filter (λ (piece : Piece). is_page file.number (place_at written blobs piece)) list))
 
+-- the bytes of page files that hold a piece of the list
 abbrev pub in_files : List Page → List Page → List Build → List Piece → List Piece → ℕ
 in_files some written blobs all list = sum_by (page_size all) (filter (has_some written blobs list) some)
 
+-- the bytes of reserved pieces
 abbrev pub in_reserve : List Page → List Build → List Piece → ℕ
 in_reserve written blobs list = sum_by (λ (piece : Piece). piece.len) (filter (λ (piece : Piece). is_reserved (place_at written blobs piece)) list)
 
 abbrev pub has_number : List Piece → ℕ → Bool
 has_number list number = list_any (λ (piece : Piece). piece.number == number) list
 
+-- the bytes of the pieces that the job still has
 abbrev pub in_job : List ℕ → List Piece → List Piece → ℕ
 in_job flying all list = sum_by (length_in all) (filter (has_number list) flying)
 
+-- all three
 abbrev pub charge : List Page → List ℕ → List Build → List Piece → List Piece → ℕ
 charge written flying blobs all list = in_files written written blobs all list + in_reserve written blobs list + in_job flying all list
 
@@ -90,6 +101,7 @@ charge written flying blobs all list = in_files written written blobs all list +
 abbrev pub is_charged : List Page → List ℕ → List Build → Piece → Bool
 is_charged written flying blobs piece = not (is_memory (place_at written blobs piece)) || list_any (λ (each : ℕ). each == piece.number) flying
 
+-- what is in a page file or reserved is not in memory
 paged_out : (number : ℕ) (at : Place) → is_page number at ≡ true → not (is_memory at) ≡ true
 paged_out number in_memory e = absurd (false_true e)
 paged_out number reserved e = refl
@@ -134,9 +146,11 @@ charge_less written flying blobs all r' r up =
 
 -- ---- one page file more
 
+-- the last page file that lists a piece is the new one, or as before
 pub page_more : (written : List Page) (file : Page) (number : ℕ) → page_with (written ++ file ∷ []) number ≡ cond (lists file number) (Some file) (page_with written number)
 page_more written file number = ap (find (λ (page : Page). lists page number)) (reverse-append written (file ∷ []))
 
+-- the charge of page files with one more
 files_more : (some written : List Page) (blobs : List Build) (all list : List Piece) (file : Page)
     → in_files (some ++ file ∷ []) written blobs all list ≤ in_files some written blobs all list + in_files (file ∷ []) written blobs all list
 files_more [] written blobs all list file = omega arith
@@ -157,6 +171,7 @@ other_before written blobs file number piece other e = go (lists file piece.numb
     go true f = absurd (false_true (sym other ∙ f))
     go false f = f
 
+-- what is still reserved was reserved
 pub reserved_before : (written : List Page) (blobs : List Build) (file : Page) (piece : Piece)
     → is_reserved (place_at (written ++ file ∷ []) blobs piece) ≡ true → is_reserved (place_at written blobs piece) ≡ true
 reserved_before written blobs file piece e = go (lists file piece.number) (ap (λ (o : Option Page). is_reserved (place_by o (build_in blobs piece.blob))) (sym (page_more written file piece.number)) ∙ e)
@@ -165,6 +180,7 @@ reserved_before written blobs file piece e = go (lists file piece.number) (ap (�
     go true f = absurd (false_true f)
     go false f = f
 
+-- the number of the page file is new
 abbrev pub IsNew : Page → List Page → Type 0
 IsNew file written = AllByRecursion (λ (page : Page). (file.number == page.number) ≡ false) written
 
@@ -179,20 +195,13 @@ files_written written file blobs all r fresh =
     (λ page other e. some_up (λ (piece : Piece). is_page page.number (place_at (written ++ file ∷ []) blobs piece)) r (λ (piece : Piece). is_page page.number (place_at written blobs piece)) r all
     (each_piece all (λ piece at reach. (other_before written blobs file page.number piece other at, reach))) e) fresh) in
     omega (arith, more, old)
-  where
-    each_piece : {P : Piece → Type 0} (list : List Piece) → ((piece : Piece) → P piece) → AllByRecursion P list
-    each_piece [] f = tt
-    each_piece (piece ∷ list) f = (f piece, each_piece list f)
 
+-- what is reserved does not grow
 pub reserve_written : (written : List Page) (file : Page) (blobs : List Build) (all : List Piece) (r : Piece → Bool)
     → in_reserve (written ++ file ∷ []) blobs (filter r all) ≤ in_reserve written blobs (filter r all)
 reserve_written written file blobs all r =
     sum_up (λ (piece : Piece). piece.len) (λ (piece : Piece). is_reserved (place_at (written ++ file ∷ []) blobs piece)) (λ (piece : Piece). is_reserved (place_at written blobs piece)) (filter r all)
     (each_piece (filter r all) (λ piece at. reserved_before written blobs file piece at))
-  where
-    each_piece : {P : Piece → Type 0} (list : List Piece) → ((piece : Piece) → P piece) → AllByRecursion P list
-    each_piece [] f = tt
-    each_piece (piece ∷ list) f = (f piece, each_piece list f)
 
 -- one page file is charged at most its size
 pub file_most : (file : Page) (written : List Page) (blobs : List Build) (all list : List Piece) → in_files (file ∷ []) written blobs all list ≤ page_size all file

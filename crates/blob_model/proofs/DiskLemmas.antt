@@ -57,6 +57,7 @@ use Rattle.blob_model.proofs.StoreDisk.{stored_fits}
 
 -- ---- a line that builds
 
+-- only the third test gives a file plan
 file_by : (b1 b2 b3 b4 : Bool) (n : ℕ) (file shared : Plan) → (shared ≡ plans.File n → ⊥) → cond b1 plans.None (cond b2 plans.OutOfMemory (cond b3 file (cond b4 plans.Inline shared))) ≡ plans.File n → b3 ≡ true
 file_by true b2 b3 b4 n file shared f e = cc
 file_by false true b3 b4 n file shared f e = cc
@@ -77,6 +78,7 @@ file_fits s h parts n e =
     let within : length (embedded parts) ≤ own_bytes parts = embedded_within parts in
     omega (arith, room, within)
 
+-- all pass a filter that each passes
 every : (test : Piece → Bool) (list : List Piece) → AllByRecursion (λ (piece : Piece). test piece ≡ true) list → filter test list ≡ list
 every test [] all = refl
 every test (piece ∷ list) all = (λ i. cond (all.0 i) (piece ∷ filter test list) (filter test list)) ∙ ap (λ (xs : List Piece). piece ∷ xs) (every test list all.1)
@@ -139,6 +141,7 @@ module _ (s : Session) (h : History) (event : Event) (renderer name : ℕ) (kind
   pub build_disk : Fits s (heard h event (build_answer s h renderer name parts))
   build_disk = build_by (line_status s h renderer name parts) refl
 
+-- a build line
 own_build : (s : Session) (h : History) (renderer : RendererId) (name : ℕ) (kind : List ℕ) (parts : List Part) → Bounded s h → refusal s h (events.Build renderer name kind parts) ≡ None → Fits s h
     → Fits s (heard h (events.Build renderer name kind parts) (build_answer s h renderer.0 name parts))
 own_build s h renderer name kind parts bounded accepted fits =
@@ -148,6 +151,7 @@ own_build s h renderer name kind parts bounded accepted fits =
     (λ plan n e. build_roots s h (heard h (events.Build renderer name kind parts) plan) renderer.0 name bounded.holders (λ holder m has. one_case ((renderer.0 == holder) && (name == m)) (count h holder m) has) n
     (λ held. let who = holder_of (heard h (events.Build renderer name kind parts) plan) n held in (who.0.number, who.1)) e) fits
 
+-- a slice line
 own_slice : (s : Session) (h : History) (renderer : RendererId) (name source : ℕ) (from to : Option ℤ) (kind : List ℕ) → Bounded s h → refusal s h (events.Slice renderer name source from to kind) ≡ None → Fits s h
     → Fits s (heard h (events.Slice renderer name source from to kind) (build_answer s h renderer.0 name (slice_parts (builds s.limits.page h) source from to)))
 own_slice s h renderer name source from to kind bounded accepted fits =
@@ -168,9 +172,6 @@ segment_line : (s : Session) (h : History) (renderer : RendererId) (b segment : 
     → IsAccepted s h (events.Segment renderer b segment bytes) own → Fits s h → Fits s (after h (events.Segment renderer b segment bytes) own)
 segment_line s h renderer b segment bytes own holders accepted one fits = go (plan_in s h b) refl one
   where
-    event : Event
-    event = events.Segment renderer b segment bytes
-
     dry : (list : List Answer) → own ≡ list → AllDry list → Fits s (after h (events.Segment renderer b segment bytes) own)
     dry list e all = subst (λ (xs : List Answer). Fits s (after h (events.Segment renderer b segment bytes) xs)) (sym e) (dry_line s h (events.Segment renderer b segment bytes) list holders accepted refl all fits)
 

@@ -49,9 +49,11 @@ is_reached s h piece = is_granted_piece h (builds s.limits.page h) piece && owns
 abbrev is_held : Session → History → Piece → Bool
 is_held s h piece = is_memory (place_in h (builds s.limits.page h) piece)
 
+-- each piece is there
 pub all_pieces : (s : Session) (h : History) → AllByRecursion (has_piece s h) (pieces s.limits.page h)
 all_pieces s h = all_by_number 0 (pieces s.limits.page h) (pieces_numbered s.limits.page 0 (builds s.limits.page h))
 
+-- and each reached one
 pub all_reached : (s : Session) (h : History) → AllByRecursion (λ (piece : Piece). has_piece s h piece × (is_reached s h piece ≡ true)) (reached s.limits.page h)
 all_reached s h = filter_has (has_piece s h) (is_reached s h) (pieces s.limits.page h) (all_pieces s h)
 
@@ -61,6 +63,7 @@ record Held (s : Session) (h : History) (piece : Piece) : Type 0 where
   granted : is_granted_piece h (builds s.limits.page h) piece ≡ true
   in_mind : is_memory (place_in h (builds s.limits.page h) piece) ≡ true
 
+-- each pageable piece is held in memory
 all_pageable : (s : Session) (h : History) → AllByRecursion (Held s h) (pageable s.limits.page h)
 all_pageable s h =
     let first = filter_has (λ (piece : Piece). has_piece s h piece × (is_reached s h piece ≡ true)) (is_held s h) (reached s.limits.page h) (all_reached s h) in
@@ -80,6 +83,7 @@ not_filed None build e f = go (unlisted_place build) e f
     go reserved a b = false_true a
     go (in_page n) a b = false_true a
 
+-- the chosen pieces are known
 chosen_known : (s : Session) (h : History) → AllByRecursion (Known s h) (chosen s.limits h)
 chosen_known s h =
     for_each (StandsFor (Held s h) (pageable s.limits.page h)) (Known s h) (chosen s.limits h)
@@ -92,12 +96,14 @@ chosen_known s h =
     }))
     (victims_stand (Held s h) (memory s.limits.page h + head_bytes (waits s.limits.page h) - s.limits.memory) (min s.limits.page (s.limits.disk - disk s.limits.page h)) (pageable s.limits.page h) (last_uses s.limits h) (all_pageable s h))
 
+-- and the disk has room for them
 chosen_most : (s : Session) (h : History) → sum_by (length_in (pieces s.limits.page h)) (chosen s.limits h) ≤ s.limits.disk - disk s.limits.page h
 chosen_most s h =
     let most = victims_most (length_in (pieces s.limits.page h)) (memory s.limits.page h + head_bytes (waits s.limits.page h) - s.limits.memory) (min s.limits.page (s.limits.disk - disk s.limits.page h)) (pageable s.limits.page h) (last_uses s.limits h)
     (for_each (Held s h) (λ (piece : Piece). length_in (pieces s.limits.page h) piece.number ≡ piece.len) (pageable s.limits.page h) (λ piece held. length_found (pieces s.limits.page h) piece.number piece held.there) (all_pageable s h)) in
     omega (arith, most)
 
+-- a page job fits
 page_jobs_fit : (s : Session) (h : History) → Fits s h → Fits s (said_all h (page_jobs s h))
 page_jobs_fit s h fits = go (may_start h && nat_lt 0 (length (waits s.limits.page h))) refl
   where
@@ -119,6 +125,7 @@ page_jobs_fit s h fits = go (may_start h && nat_lt 0 (length (waits s.limits.pag
 
 -- ---- compactions
 
+-- what is found passes the test
 found_true : {X : Type 0} (test : X → Bool) (xs : List X) (x : X) → find test xs ≡ Some x → test x ≡ true
 found_true test [] x e = cc
 found_true {X = X} test (y ∷ xs) x e = go (test y) refl e (found_true test xs x)
@@ -139,9 +146,9 @@ each_any {X = X} test (x ∷ xs) = (
 pub filter_all : {X : Type 0} (P : X → Type 0) (test : X → Bool) (xs : List X) → AllByRecursion P xs → AllByRecursion P (filter test xs)
 filter_all {X = X} P test xs all = for_each (λ (x : X). P x × (test x ≡ true)) P (filter test xs) (λ x e. e.0) (filter_has P test xs all)
 
+-- a compaction job fits
 compaction_fits : (s : Session) (h : History) (file : Page) → movable s h ≡ Some file → is_none (in_flight h) ≡ true → Fits s h → Fits s (said h (compaction s h file))
 compaction_fits s h file e idle fits =
-    let blobs = builds s.limits.page h in
     let test : can_move s h (builds s.limits.page h) (pieces s.limits.page h) (reached s.limits.page h) file ≡ true = found_true (can_move s h (builds s.limits.page h) (pieces s.limits.page h) (reached s.limits.page h)) (files s.limits.page h) file e in
     let fitting = leb-true (bytes_of (in_page_of h (builds s.limits.page h) file (reached s.limits.page h))) (s.limits.disk - disk s.limits.page h)
     (and_parts (is_thin h (builds s.limits.page h) (pieces s.limits.page h) (reached s.limits.page h) file) (nat_le (bytes_of (in_page_of h (builds s.limits.page h) file (reached s.limits.page h))) (s.limits.disk - disk s.limits.page h)) test).1 in

@@ -25,19 +25,23 @@ numbered_two n blob (span ∷ spans) more all =
     let same : n + length (span ∷ spans) ≡ (n + 1) + length spans = omega arith in
     (refl, numbered_two (n + 1) blob spans more (subst (λ (m : ℕ). AreNumbered m more) same all))
 
+-- pieces are numbered
 pub pieces_numbered : (page n : ℕ) (list : List Build) → AreNumbered n (pieces_from page n list)
 pieces_numbered page n [] = tt
 pieces_numbered page n (build ∷ list) = numbered_two n build.name (spans_of page build) (pieces_from page (n + length (spans_of page build)) list) (pieces_numbered page (n + length (spans_of page build)) list)
 
+-- no number is below the first
 pub numbers_low : (n : ℕ) (list : List Piece) → AreNumbered n list → AllByRecursion (λ (piece : Piece). n ≤ piece.number) list
 numbers_low n [] all = tt
 numbers_low n (piece ∷ list) all =
     let here = all.0 in
     (omega (arith, here), for_each (λ (each : Piece). n + 1 ≤ each.number) (λ (each : Piece). n ≤ each.number) list (λ each low. omega (arith, low)) (numbers_low (n + 1) list all.1))
 
+-- the first piece of this number
 abbrev pub FoundIn : List Piece → ℕ → Piece → Type 0
 FoundIn all n piece = find (λ (each : Piece). each.number == n) all ≡ Some piece
 
+-- numbers that are not equal
 pub not_same : (a b : ℕ) → (a ≡ b → ⊥) → (a == b) ≡ false
 not_same a b f = go (a == b) refl
   where
@@ -45,10 +49,12 @@ not_same a b f = go (a == b) refl
     go false at = refl
     go true at = absurd (f (eqb-true a b at))
 
+-- two facts of each item give a third
 for_both : {X : Type 0} (P Q R : X → Type 0) (xs : List X) → ((x : X) → P x → Q x → R x) → AllByRecursion P xs → AllByRecursion Q xs → AllByRecursion R xs
 for_both P Q R [] f p q = tt
 for_both P Q R (x ∷ xs) f p q = (f x p.0 q.0, for_both P Q R xs f p.1 q.1)
 
+-- each piece is found by its number
 pub all_by_number : (n : ℕ) (list : List Piece) → AreNumbered n list → AllByRecursion (λ (piece : Piece). FoundIn list piece.number piece) list
 all_by_number n [] all = tt
 all_by_number n (piece ∷ list) all = (
@@ -61,6 +67,7 @@ all_by_number n (piece ∷ list) all = (
       (numbers_low (n + 1) list all.1) (all_by_number (n + 1) list all.1),
 )
 
+-- what is found has the number
 pub found_number : (list : List Piece) (n : ℕ) (piece : Piece) → FoundIn list n piece → piece.number ≡ n
 found_number [] n piece e = cc
 found_number (x ∷ list) n piece e = go (x.number == n) refl e (found_number list n piece)
@@ -69,6 +76,7 @@ found_number (x ∷ list) n piece e = go (x.number == n) refl e (found_number li
     go true at f rest = let same : x ≡ piece = cc in subst (λ (y : Piece). y.number ≡ n) same (eqb-true x.number n at)
     go false at f rest = rest f
 
+-- what is found is found in a longer list
 pub found_append : (list more : List Piece) (n : ℕ) (piece : Piece) → FoundIn list n piece → FoundIn (list ++ more) n piece
 found_append [] more n piece e = cc
 found_append (x ∷ list) more n piece e = go (x.number == n) e (found_append list more n piece)
@@ -87,6 +95,7 @@ found_all {X = X} P test (y ∷ list) x all e = go (test y) e (found_all P test 
     go true f rest = let same : y ≡ x = cc in subst P same all.0
     go false f rest = rest f
 
+-- the length of the number is that of the piece
 pub length_found : (list : List Piece) (n : ℕ) (piece : Piece) → FoundIn list n piece → length_in list n ≡ piece.len
 length_found list n piece e = ap (λ (o : Option Piece). option_map_or (λ (each : Piece). each.len) o 0) e
 
@@ -98,11 +107,13 @@ member_has P (x ∷ list) n all e =
 
 -- ---- parts of lists
 
+-- the first list is the second without some items
 pub data PartOf : List ℕ → List ℕ → Type 0 where
   over : PartOf [] []
   skips : (x : ℕ) (ys xs : List ℕ) → PartOf ys xs → PartOf ys (x ∷ xs)
   keeps : (x : ℕ) (ys xs : List ℕ) → PartOf ys xs → PartOf (x ∷ ys) (x ∷ xs)
 
+-- what is in the part is in the whole
 pub part_any : (test : ℕ → Bool) (ys xs : List ℕ) → PartOf ys xs → list_any test ys ≡ true → list_any test xs ≡ true
 part_any test some whole over e = e
 part_any test some whole (skips x ys xs part) e = or_second (test x) (list_any test xs) (part_any test ys xs part e)
@@ -121,11 +132,13 @@ part_none test ys xs part e = go (list_any test ys) refl
     go false at = refl
     go true at = absurd (false_true (sym e ∙ part_any test ys xs part at))
 
+-- a part of numbers that differ
 pub part_apart : (ys xs : List ℕ) → PartOf ys xs → AreApart xs → AreApart ys
 part_apart some whole over apart = tt
 part_apart some whole (skips x ys xs part) apart = part_apart ys xs part apart.1
 part_apart some whole (keeps x ys xs part) apart = (part_none (λ (each : ℕ). each == x) ys xs part apart.0, part_apart ys xs part apart.1)
 
+-- what passes a filter is a part
 pub part_filter : (test : ℕ → Bool) (xs : List ℕ) → PartOf (filter test xs) xs
 part_filter test [] = over
 part_filter test (x ∷ xs) = go (test x) (part_filter test xs)
@@ -138,6 +151,7 @@ pub part_nil : (xs : List ℕ) → PartOf [] xs
 part_nil [] = over
 part_nil (x ∷ xs) = skips x [] xs (part_nil xs)
 
+-- a part of a part
 pub part_over : (zs ys xs : List ℕ) → PartOf zs ys → PartOf ys xs → PartOf zs xs
 part_over zs ys xs p over = p
 part_over zs some whole p (skips x ys xs part) = skips x zs xs (part_over zs ys xs p part)
@@ -150,6 +164,7 @@ part_over zs some whole p (keeps x ys xs part) = go zs p (λ list more. part_ove
 abbrev pub firsts : List (ℕ × ℕ) → List ℕ
 firsts entries = map (λ (entry : ℕ × ℕ). entry.0) entries
 
+-- enough of the entries are a part
 pub part_enough : (need : ℕ) (entries : List (ℕ × ℕ)) → PartOf (firsts (enough need entries)) (firsts entries)
 part_enough need [] = over
 part_enough need (entry ∷ entries) = go (nat_le need 0) (part_enough (need - entry.1) entries)
@@ -158,6 +173,7 @@ part_enough need (entry ∷ entries) = go (nat_le need 0) (part_enough (need - e
     go true part = part_nil (firsts (entry ∷ entries))
     go false part = keeps entry.0 (firsts (enough (need - entry.1) entries)) (firsts entries) part
 
+-- so are those within a bound
 pub part_within : (most : ℕ) (entries : List (ℕ × ℕ)) → PartOf (firsts (within most entries)) (firsts entries)
 part_within most [] = over
 part_within most (entry ∷ entries) = go (nat_le entry.1 most) (part_within (most - entry.1) entries)
@@ -166,6 +182,7 @@ part_within most (entry ∷ entries) = go (nat_le entry.1 most) (part_within (mo
     go true part = keeps entry.0 (firsts (within (most - entry.1) entries)) (firsts entries) part
     go false part = part_nil (firsts (entry ∷ entries))
 
+-- entries have the numbers that were used
 pub part_lengths : (list : List Piece) (uses : List ℕ) → PartOf (firsts (filter_map (with_length list) uses)) uses
 part_lengths list [] = over
 part_lengths list (n ∷ uses) = go (find (λ (piece : Piece). piece.number == n) list) (λ piece e. found_number list n piece e) (part_lengths list uses)

@@ -21,10 +21,10 @@ use Rattle.blob_model.proofs.Check.{or_cases, or_first, or_second}
 use Rattle.blob_model.proofs.KeptLemmas.{for_each}
 use Rattle.blob_model.proofs.HeardLemmas.{all_more}
 use Rattle.blob_model.proofs.ShrinkLemmas.{Shrinks}
-use Rattle.blob_model.proofs.ChargeLemmas.{charge_less, place_at, has_some, has_number, in_files, in_reserve, in_job, IsNew, files_written, reserve_written, file_most, page_more, reserved_before, some_up}
+use Rattle.blob_model.proofs.ChargeLemmas.{each_piece, charge_less, place_at, has_some, has_number, in_files, in_reserve, in_job, IsNew, files_written, reserve_written, file_most, page_more, reserved_before, some_up}
 use Rattle.blob_model.proofs.NumberLemmas.{FoundIn, found_all, length_found, not_same, PartOf, part_nil, part_any, part_filter, part_apart, AreApart}
 use Rattle.blob_model.proofs.VictimLemmas.{sum_without}
-use Rattle.blob_model.proofs.StockLemmas.{flying_of, flying, Known, Stocked, Follows, known_follows, reaches, charge_with, disk_as, each_piece, reach_shrinks}
+use Rattle.blob_model.proofs.StockLemmas.{flying_of, flying, Known, Stocked, Follows, known_follows, reaches, charge_with, disk_as, reach_shrinks}
 use Rattle.blob_model.proofs.SettleDisk.{Fits, part_same}
 use Rattle.blob_model.proofs.JobDisk.{all_pieces}
 
@@ -66,6 +66,7 @@ stocked_written s h g file follows written number next part apart known stocked 
 
 -- ---- a job is done
 
+-- what the job still has, as a part of its pieces
 left_flies : (page : ℕ) (h : History) → job_left page h ≡ filter (has_number (reached page h)) (flying h)
 left_flies page h = go (in_flight h)
   where
@@ -97,6 +98,7 @@ job_written s h g file follows shrinks written number next over same fits =
 
 -- ---- a piece is stored
 
+-- a page file that is found has a number that was given out
 low_numbers : (written : List Page) (next n : ℕ) (file : Page) → AllByRecursion (λ (each : Page). each.number < next) written → page_with written n ≡ Some file → file.number < next
 low_numbers written next n file all e = found_all (λ (each : Page). each.number < next) (λ (each : Page). lists each n) (reverse written) file (turned written all) e
   where

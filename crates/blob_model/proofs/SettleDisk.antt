@@ -36,6 +36,7 @@ use Rattle.blob_model.proofs.StockLemmas.{flying_of, flying, is_listed, Known, S
 abbrev pub Fits : Session → History → Type 0
 Fits s h = Stocked s h × (disk s.limits.page h ≤ s.limits.disk)
 
+-- a list is a part of itself
 pub part_same : (xs : List ℕ) → PartOf xs xs
 part_same [] = over
 part_same (x ∷ xs) = keeps x xs xs (part_same xs)
@@ -118,6 +119,7 @@ granted_all : (h : History) (list : List Answer) (name : ℕ) → was_granted h 
 granted_all h [] name e = e
 granted_all h (answer ∷ list) name e = granted_all (said h answer) list name (still_granted answer name (was_granted h name) e)
 
+-- answers keep blobs, grants and segments
 pub follows_all : (s : Session) (h : History) (list : List Answer) → Follows s h (said_all h list)
 follows_all s h list = record {
   blobs = builds_all s.limits.page h list;
@@ -125,6 +127,7 @@ follows_all s h list = record {
   came = λ name k e. subst (λ xs. has_come xs k ≡ true) (sym (kept_by_all (λ (g : History). arrivals g name) (λ g answer. refl) h list)) e;
 }
 
+-- even answers keep what is listed
 stocked_even : (s : Session) (h : History) (list : List Answer) → AllEven list → Stocked s h → Stocked s (said_all h list)
 stocked_even s h list all stocked =
     let same : flying (said_all h list) ≡ flying h = kept_by_kind flying is_even even_flying h list all in
@@ -132,6 +135,7 @@ stocked_even s h list all stocked =
     stocked_less s h (said_all h list) (follows_all s h list) (kept_by_kind pages is_even even_pages h list all) (omega (arith, next))
     (subst (λ (xs : List ℕ). PartOf xs (flying h)) (sym same) (part_same (flying h))) (subst AreApart (sym same) stocked.job_apart) stocked
 
+-- and the limit
 fits_even : (s : Session) (h : History) (list : List Answer) → AllEven list → Shrinks s.limits.page h (said_all h list) → Fits s h → Fits s (said_all h list)
 fits_even s h list all shrinks fits =
     let same : flying (said_all h list) ≡ flying h = kept_by_kind flying is_even even_flying h list all in
@@ -148,9 +152,9 @@ fits_endings s h fits = fits_even s h (endings s h) (pass_even s h (builds s.lim
 pub fits_removals : (s : Session) (unremoved : List ℕ) (h : History) → Fits s h → Fits s (said_all h (removals s unremoved h))
 fits_removals s unremoved h fits = fits_even s h (removals s unremoved h) (removals_even unremoved (filter (is_due h (files s.limits.page h)) (pages h))) (removals_shrink s unremoved h) fits
 
+-- grants do, since charged pieces are granted
 pub grants_fit : (s : Session) (h : History) → Fits s h → Fits s (said_all h (grants s h))
 grants_fit s h fits =
-    let all = grants_even s h (waits s.limits.page h) in
     let same : flying (said_all h (grants s h)) ≡ flying h = kept_by_kind flying is_even even_flying h (grants s h) (grants_even s h (waits s.limits.page h)) in
     let cells = cells_late s.limits.page h (grants s h) (grants_late s h (waits s.limits.page h)) in
     let less = disk_less s.limits.page h (said_all h (grants s h)) (builds_all s.limits.page h (grants s h)) (kept_by_kind pages is_even even_pages h (grants s h) (grants_even s h (waits s.limits.page h)))
@@ -167,6 +171,7 @@ grants_fit s h fits =
 
 -- ---- a job starts
 
+-- numbers that an answer lists
 pub numbers_list : (list : List ℕ) → numbers (piece_list list) ≡ list
 numbers_list [] = refl
 numbers_list (n ∷ list) = ap (λ (xs : List ℕ). n ∷ xs) (numbers_list list)

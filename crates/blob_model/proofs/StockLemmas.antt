@@ -23,7 +23,7 @@ use Rattle.blob_model.proofs.Check.{or_cases, or_first, or_second}
 use Rattle.blob_model.proofs.LiveLemmas.{any_reverse}
 use Rattle.blob_model.proofs.KeptLemmas.{for_each}
 use Rattle.blob_model.proofs.ShrinkLemmas.{Shrinks, holds_before, granted_before}
-use Rattle.blob_model.proofs.ChargeLemmas.{charge, is_charged, place_at, charge_less, in_files, in_reserve, has_number}
+use Rattle.blob_model.proofs.ChargeLemmas.{each_piece, charge, is_charged, place_at, charge_less, in_files, in_reserve, has_number}
 use Rattle.blob_model.proofs.NumberLemmas.{FoundIn, pieces_numbered, all_by_number, PartOf, over, skips, keeps, part_any, AreApart}
 
 -- ---- what is listed
@@ -55,6 +55,7 @@ pub record Known (s : Session) (h : History) (n : ℕ) : Type 0 where
   pub granted : is_granted_piece h (builds s.limits.page h) piece ≡ true
   pub came : is_filed (builds s.limits.page h) piece.blob ≡ true → HasCome s h piece
 
+-- page files have numbers that were given out, lists have no piece twice, and what is listed is known
 pub record Stocked (s : Session) (h : History) : Type 0 where
   pub low : AllByRecursion (λ (file : Page). file.number < next_page h) (pages h)
   pub apart : AllByRecursion (λ (file : Page). AreApart file.pieces) (pages h)
@@ -63,11 +64,13 @@ pub record Stocked (s : Session) (h : History) : Type 0 where
 
 -- ---- steps that build nothing
 
+-- blobs stay, and grants and segments only come
 pub record Follows (s : Session) (h g : History) : Type 0 where
   pub blobs : builds s.limits.page g ≡ builds s.limits.page h
   pub granted : (name : ℕ) → was_granted h name ≡ true → was_granted g name ≡ true
   pub came : (name k : ℕ) → has_come (arrivals h name) k ≡ true → has_come (arrivals g name) k ≡ true
 
+-- a granted blob stays granted
 granted_found : (h g : History) (found : Option Build) → ((name : ℕ) → was_granted h name ≡ true → was_granted g name ≡ true) → option_map_or (is_granted h) found false ≡ true → option_map_or (is_granted g) found false ≡ true
 granted_found h g None more e = e
 granted_found h g (Some build) more e =
@@ -78,7 +81,6 @@ granted_found h g (Some build) more e =
 -- what is known stays known
 pub known_follows : (s : Session) (h g : History) (n : ℕ) → Follows s h g → Known s h n → Known s g n
 known_follows s h g n follows known =
-    let piece = known.piece in
     record {
       piece = known.piece;
       found = subst (λ (xs : List Build). FoundIn (pieces_from s.limits.page 0 xs) n known.piece) (sym follows.blobs) known.found;
@@ -117,6 +119,7 @@ reaches page h blobs piece = is_granted_piece h blobs piece && owns_some (live_c
 abbrev pub charge_with : ℕ → History → List Page → List ℕ → List Build → ℕ
 charge_with page h written numbers blobs = charge written numbers blobs (pieces_from page 0 blobs) (filter (reaches page h blobs) (pieces_from page 0 blobs))
 
+-- the disk number in three parts
 pub disk_as : (page : ℕ) (h : History) → disk page h ≡ charge_with page h (pages h) (flying h) (builds page h)
 disk_as page h = go (in_flight h)
   where
@@ -127,6 +130,7 @@ disk_as page h = go (in_flight h)
     go None = refl
     go (Some job) = refl
 
+-- a part of the numbers sums to no more
 part_sum : (f : ℕ → ℕ) (p : ℕ → Bool) (ys xs : List ℕ) → PartOf ys xs → sum_by f (filter p ys) ≤ sum_by f (filter p xs)
 part_sum f p some whole over = omega arith
 part_sum f p some whole (skips x ys xs part) = go (p x) (part_sum f p ys xs part)
@@ -157,15 +161,13 @@ reach_shrinks page h g piece shrinks e =
     let parts = and_parts (is_granted_piece g (builds page h) piece) (owns_some (live_cells page g) piece) e in
     both (is_granted_piece h (builds page h) piece) (owns_some (live_cells page h) piece) (granted_before page h g (builds page h) piece shrinks parts.0) (holds_before page h g piece shrinks parts.1)
 
-pub each_piece : {P : Piece → Type 0} (list : List Piece) → ((piece : Piece) → P piece) → AllByRecursion P list
-each_piece [] f = tt
-each_piece (piece ∷ list) f = (f piece, each_piece list f)
-
+-- where roots, blobs and grants shrink the charge does not grow
 pub disk_shrinks : (page : ℕ) (h g : History) → Shrinks page h g → pages g ≡ pages h → PartOf (flying g) (flying h) → disk page g ≤ disk page h
 disk_shrinks page h g shrinks written part = disk_less page h g shrinks.blobs written part (each_piece (pieces page h) (λ piece e charged. reach_shrinks page h g piece shrinks e))
 
 -- ---- charged pieces are granted
 
+-- the page file that is found is among those that list the piece
 pub listed_by : (written : List Page) (n : ℕ) (file : Page) → page_with written n ≡ Some file → list_any (λ (each : Page). lists each n) written ≡ true
 listed_by written n file e =
     subst (λ (xs : List Page). list_any (λ (each : Page). lists each n) xs ≡ true) (reverse-reverse written) (any_reverse (λ (each : Page). lists each n) (reverse written) (go (reverse written) e))
@@ -178,6 +180,7 @@ listed_by written n file e =
         pick true g rest = refl
         pick false g rest = rest g
 
+-- a blob whose plan is file is granted
 planned_granted : (h : History) (found : Option Build) → not (is_memory (unlisted_place found)) ≡ true → option_map_or (is_granted h) found false ≡ true
 planned_granted h None e = absurd (false_true e)
 planned_granted h (Some build) e = go build.plan e

@@ -42,11 +42,13 @@ use Rattle.blob_model.proofs.PaperLemmas.{piece_written}
 
 -- ---- places in a list
 
+-- what stands at a place has what all have
 get_all : {X : Type 0} (P : X → Type 0) (xs : List X) (k : ℕ) (x : X) → AllByRecursion P xs → slice_get xs k ≡ Some x → P x
 get_all P [] k x all e = cc
 get_all P (y ∷ xs) zero x all e = let same : y ≡ x = cc in subst P same all.0
 get_all P (y ∷ xs) (suc k) x all e = get_all P xs k x all.1 e
 
+-- something stands at each place
 get_there : {X : Type 0} (xs : List X) (k : ℕ) → k < length xs → (x : X) × (slice_get xs k ≡ Some x)
 get_there [] k low = absurd (omega (arith, low))
 get_there (x ∷ xs) zero low = (x, refl)
@@ -57,12 +59,14 @@ abbrev AreRising : List Piece → Type 0
 AreRising [] = Unit {0}
 AreRising (piece ∷ more) = AllByRecursion (λ (other : Piece). piece.number < other.number) more × AreRising more
 
+-- pieces rise
 numbered_rising : (n : ℕ) (list : List Piece) → AreNumbered n list → AreRising list
 numbered_rising n [] all = tt
 numbered_rising n (piece ∷ list) all =
     let here = all.0 in
     (for_each (λ (other : Piece). n + 1 ≤ other.number) (λ (other : Piece). piece.number < other.number) list (λ other low. omega (arith, low, here)) (numbers_low (n + 1) list all.1), numbered_rising (n + 1) list all.1)
 
+-- also where some are left out
 filter_rising : (test : Piece → Bool) (list : List Piece) → AreRising list → AreRising (filter test list)
 filter_rising test [] rising = tt
 filter_rising test (piece ∷ list) rising = go (test piece) (filter_rising test list rising.1)
@@ -89,10 +93,12 @@ one_place (x ∷ list) (suc i) (suc j) piece rising e f = ap suc (one_place list
 
 -- ---- a blob has a piece for each span
 
+-- the length of two lists
 length_two : (xs ys : List Piece) → length (xs ++ ys) ≡ length xs + length ys
 length_two [] ys = omega arith
 length_two (x ∷ xs) ys = let rest = length_two xs ys in omega (arith, rest)
 
+-- the pieces of the blob itself
 numbered_length : (name blob number : ℕ) (list : List (ℕ × ℕ)) → (blob == name) ≡ true → length (filter (λ (piece : Piece). piece.blob == name) (numbered blob number list)) ≡ length list
 numbered_length name blob number [] e = refl
 numbered_length name blob number (span ∷ list) e =
@@ -101,6 +107,7 @@ numbered_length name blob number (span ∷ list) e =
     (λ i. length (cond (e i) (record { number = number; blob = blob; from = span.0; len = span.1 } ∷ filter (λ (piece : Piece). piece.blob == name) (numbered blob (number + 1) list)) (filter (λ (piece : Piece). piece.blob == name) (numbered blob (number + 1) list)))) in
     omega (arith, rest, head)
 
+-- a blob has at least a piece for each span
 spans_within : (page number name : ℕ) (list : List Build) (build : Build) → build_in list name ≡ Some build → length (spans_of page build) ≤ length (filter (λ (piece : Piece). piece.blob == name) (pieces_from page number list))
 spans_within page number name [] build e = cc
 spans_within page number name (x ∷ list) build e = go (x.name == name) refl e (λ f. spans_within page (number + length (spans_of page x)) name list build f)

@@ -16,6 +16,7 @@ use Rattle.blob_model.proofs.NumberLemmas.{AreApart, firsts, found_all, part_fil
 
 -- ---- lists that were chosen
 
+-- what passes a filter sums to no more
 pub filter_less : {X : Type 0} (f : X → ℕ) (p : X → Bool) (xs : List X) → sum_by f (filter p xs) ≤ sum_by f xs
 filter_less f p [] = omega arith
 filter_less {X = X} f p (x ∷ xs) = go (p x) (filter_less f p xs)
@@ -28,6 +29,7 @@ filter_less {X = X} f p (x ∷ xs) = go (p x) (filter_less f p xs)
 abbrev pub AreMeasured : (ℕ → ℕ) → List (ℕ × ℕ) → Type 0
 AreMeasured f entries = AllByRecursion (λ (entry : ℕ × ℕ). f entry.0 ≡ entry.1) entries
 
+-- entries within a bound sum to at most that
 within_most : (f : ℕ → ℕ) (most : ℕ) (entries : List (ℕ × ℕ)) → AreMeasured f entries → sum_by f (firsts (within most entries)) ≤ most
 within_most f most [] all = omega arith
 within_most f most (entry ∷ entries) all = go (nat_le entry.1 most) refl (within_most f (most - entry.1) entries all.1)
@@ -64,6 +66,7 @@ victims_most f need most list uses all = within_most f most (enough need (filter
 
 -- ---- what each chosen number stands for
 
+-- a piece of this number with a property
 abbrev pub StandsFor : (Piece → Type 0) → List Piece → ℕ → Type 0
 StandsFor P list n = (piece : Piece) × (piece.number ≡ n) × P piece
 
@@ -95,6 +98,7 @@ all_lengths P list (n ∷ uses) all = go (find (λ (piece : Piece). piece.number
     go None has rest = rest
     go (Some piece) has rest = ((piece, refl, has piece refl), rest)
 
+-- each chosen number stands for a piece of the list
 pub victims_stand : (P : Piece → Type 0) (need most : ℕ) (list : List Piece) (uses : List ℕ) → AllByRecursion P list → AllByRecursion (StandsFor P list) (victims need most (filter_map (with_length list) uses))
 victims_stand P need most list uses all = all_firsts (StandsFor P list) (filter_map (with_length list) uses) need most (all_lengths P list uses all)
 
@@ -125,17 +129,20 @@ apart_last (x ∷ xs) n apart e =
         let parts = or_parts (y == x) (list_any (λ (each : ℕ). each == x) list) f in
         (λ i. parts.0 i || list_any (λ (each : ℕ). each == x) (list ++ n ∷ [])) ∙ none_more list parts.1
 
+-- a use keeps numbers apart
 pub used_apart : (before : List ℕ) (number : ℕ) → AreApart before → AreApart (used before number)
 used_apart before number apart =
     apart_last (filter (λ (each : ℕ). not (each == number)) before) number (part_apart (filter (λ (each : ℕ). not (each == number)) before) before (part_filter (λ (each : ℕ). not (each == number)) before) apart)
     (none_filtered (λ (each : ℕ). not (each == number)) number before (λ i. not (eq-eqb number number refl i)))
 
+-- so do many
 pub fold_apart : {X : Type 0} (step : List ℕ → X → List ℕ) → ((before : List ℕ) (x : X) → AreApart before → AreApart (step before x)) → (xs : List X) (before : List ℕ) → AreApart before → AreApart (fold step before xs)
 fold_apart step keeps [] before apart = apart
 fold_apart step keeps (x ∷ xs) before apart = fold_apart step keeps xs (step before x) (keeps before x apart)
 
 -- ---- numbers that differ sum to no more than the pieces
 
+-- a sum over two tests
 sum_or : (f : ℕ → ℕ) (p q : ℕ → Bool) (xs : List ℕ) → sum_by f (filter (λ (n : ℕ). p n || q n) xs) ≤ sum_by f (filter p xs) + sum_by f (filter q xs)
 sum_or f p q [] = omega arith
 sum_or f p q (x ∷ xs) = go (p x) (q x) (sum_or f p q xs)
@@ -147,6 +154,7 @@ sum_or f p q (x ∷ xs) = go (p x) (q x) (sum_or f p q xs)
     go false true rest = let w = sum_by-cons f x (filter (λ (n : ℕ). p n || q n) xs) in let r = sum_by-cons f x (filter q xs) in omega (arith, w, r, rest)
     go false false rest = rest
 
+-- one number is there at most once
 sum_single : (f : ℕ → ℕ) (n : ℕ) (xs : List ℕ) → AreApart xs → sum_by f (filter (λ (each : ℕ). n == each) xs) ≤ f n
 sum_single f n [] apart = omega arith
 sum_single f n (x ∷ xs) apart = go (n == x) refl (sum_single f n xs apart.1)
@@ -166,6 +174,7 @@ sum_single f n (x ∷ xs) apart = go (n == x) refl (sum_single f n xs apart.1)
         let moved : f n ≡ f x = ap f same in
         omega (arith, none, whole, moved)
 
+-- the numbers that some piece of the list has
 pub apart_sum : (f : ℕ → ℕ) (numbers : List ℕ) (list : List Piece) → AreApart numbers → AllByRecursion (λ (piece : Piece). f piece.number ≡ piece.len) list
     → sum_by f (filter (has_number list) numbers) ≤ sum_by (λ (piece : Piece). piece.len) list
 apart_sum f numbers [] apart all =
@@ -184,6 +193,7 @@ apart_sum f numbers (piece ∷ list) apart all =
 
 -- ---- one reserved piece less
 
+-- the sum without one piece
 pub sum_without : (p' p q : Piece → Bool) (test : Piece → Bool) (xs : List Piece) (piece : Piece) → ((each : Piece) → p' each ≡ true → p each ≡ true) → find test xs ≡ Some piece → p piece ≡ true → q piece ≡ true → p' piece ≡ false
     → sum_by (λ (each : Piece). each.len) (filter p' (filter q xs)) + piece.len ≤ sum_by (λ (each : Piece). each.len) (filter p (filter q xs))
 sum_without p' p q test [] piece up e at_p at_q none = cc
