@@ -140,7 +140,7 @@ unlisted_after (answers.Paged job file more) list number e = page_more list (rec
 unlisted_after (answers.Moved job file more) list number e = page_more list (record { number = file.0; pieces = numbers more }) number e
 unlisted_after answer list number e = e
 
-plain_said : (page : ℕ) (h : History) (answer : Answer) → is_plain answer ≡ true → Shrinks page h (said h answer)
+pub plain_said : (page : ℕ) (h : History) (answer : Answer) → is_plain answer ≡ true → Shrinks page h (said h answer)
 plain_said page h answer plain =
     let parts = and_parts (not (is_ending answer)) (not (is_grant answer)) plain in
     record {
@@ -152,7 +152,7 @@ plain_said page h answer plain =
       unlisted = λ number e. unlisted_after answer (pages h) number e;
     }
 
-plain_heard : (s : Session) (h : History) (event : Event) (answer : Answer) → HoldersSpawned h → refusal s h event ≡ None → is_build event ≡ false → is_plain answer ≡ true → Shrinks s.limits.page h (heard h event answer)
+pub plain_heard : (s : Session) (h : History) (event : Event) (answer : Answer) → HoldersSpawned h → refusal s h event ≡ None → is_build event ≡ false → is_plain answer ≡ true → Shrinks s.limits.page h (heard h event answer)
 plain_heard s h event answer holders accepted other plain =
     let parts = and_parts (not (is_ending answer)) (not (is_grant answer)) plain in
     record {

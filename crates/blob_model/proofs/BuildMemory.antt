@@ -56,7 +56,7 @@ sum_where {X = X} f p' q' p q (x ∷ xs) all = go (q' x) (q x) (p' x) (p x) refl
 
 -- ---- pieces of one blob more
 
-pieces_more : (page number : ℕ) (list : List Build) (x : Build) → (next : ℕ) × (pieces_from page number (list ++ x ∷ []) ≡ pieces_from page number list ++ pieces_from page next (x ∷ []))
+pub pieces_more : (page number : ℕ) (list : List Build) (x : Build) → (next : ℕ) × (pieces_from page number (list ++ x ∷ []) ≡ pieces_from page number list ++ pieces_from page next (x ∷ []))
 pieces_more page number [] x = (number, refl)
 pieces_more page number (build ∷ list) x =
     let rest = pieces_more page (number + length (spans_of page build)) list x in (
@@ -73,7 +73,7 @@ all_append : {X : Type 0} (P : X → Type 0) (xs ys : List X) → AllByRecursion
 all_append P [] ys p q = q
 all_append P (x ∷ xs) ys p q = (p.0, all_append P xs ys p.1 q)
 
-pieces_named : (page number : ℕ) (list : List Build) → AllByRecursion (λ (piece : Piece). named piece.blob list ≡ true) (pieces_from page number list)
+pub pieces_named : (page number : ℕ) (list : List Build) → AllByRecursion (λ (piece : Piece). named piece.blob list ≡ true) (pieces_from page number list)
 pieces_named page number [] = tt
 pieces_named page number (build ∷ list) =
     all_append (λ (piece : Piece). named piece.blob (build ∷ list) ≡ true) (numbered build.name number (spans_of page build)) (pieces_from page (number + length (spans_of page build)) list)
@@ -81,7 +81,7 @@ pieces_named page number (build ∷ list) =
     (for_each (λ (piece : Piece). named piece.blob list ≡ true) (λ (piece : Piece). named piece.blob (build ∷ list) ≡ true) (pieces_from page (number + length (spans_of page build)) list)
     (λ piece member. or_second (build.name == piece.blob) (named piece.blob list) member) (pieces_named page (number + length (spans_of page build)) list))
 
-found_more : (list : List Build) (x : Build) (name : ℕ) → named name list ≡ true → build_in (list ++ x ∷ []) name ≡ build_in list name
+pub found_more : (list : List Build) (x : Build) (name : ℕ) → named name list ≡ true → build_in (list ++ x ∷ []) name ≡ build_in list name
 found_more [] x name e = absurd (false_true e)
 found_more (build ∷ list) x name e = go (build.name == name) e (found_more list x name)
   where
@@ -163,6 +163,23 @@ module _ (page : ℕ) (h g : History) (x : Build) (adds : Adds page h g x) where
       let granted_same : is_granted_piece g (builds page h ++ x ∷ []) piece ≡ is_granted_piece h (builds page h) piece =
       ap (λ (o : Option Build). option_map_or (is_granted g) o false) found ∙ same (build_in (builds page h) piece.blob) in
       (sym place_same ∙ at_memory, both (is_granted_piece h (builds page h) piece) (owns_some (live_cells page h) piece) (sym granted_same ∙ parts.0) (holds_old piece member parts.1)))
+      (pieces_named page 0 (builds page h))
+    where
+      same : (o : Option Build) → option_map_or (is_granted g) o false ≡ option_map_or (is_granted h) o false
+      same None = refl
+      same (Some build) = ap (λ (b : Bool). option_map_or grants_at_once build.plan false || b) (adds.granted build.name)
+
+  -- an older piece that is reached was reached
+  pub old_reached : AllByRecursion (λ (piece : Piece). reached_now piece ≡ true → (is_granted_piece h (builds page h) piece && owns_some (live_cells page h) piece) ≡ true) (pieces page h)
+  old_reached =
+      for_each (λ (piece : Piece). named piece.blob (builds page h) ≡ true)
+      (λ (piece : Piece). reached_now piece ≡ true → (is_granted_piece h (builds page h) piece && owns_some (live_cells page h) piece) ≡ true) (pieces page h)
+      (λ piece member at_reach.
+      let found : build_in (builds page h ++ x ∷ []) piece.blob ≡ build_in (builds page h) piece.blob = found_more (builds page h) x piece.blob member in
+      let parts = and_parts (is_granted_piece g (builds page h ++ x ∷ []) piece) (owns_some (live_cells page g) piece) at_reach in
+      let granted_same : is_granted_piece g (builds page h ++ x ∷ []) piece ≡ is_granted_piece h (builds page h) piece =
+      ap (λ (o : Option Build). option_map_or (is_granted g) o false) found ∙ same (build_in (builds page h) piece.blob) in
+      both (is_granted_piece h (builds page h) piece) (owns_some (live_cells page h) piece) (sym granted_same ∙ parts.0) (holds_old piece member parts.1))
       (pieces_named page 0 (builds page h))
     where
       same : (o : Option Build) → option_map_or (is_granted g) o false ≡ option_map_or (is_granted h) o false

@@ -67,7 +67,7 @@ file_other n p f g e = go (nat_lt 65536 n) e
     go true at = g counted.Pieces at
     go false at = f n at
 
-shared_other : (n : ℕ) (p : Plan) → ((m : ℕ) → plans.Shared m ≡ p → ⊥) → ((c : Counted) → plans.TooMany c ≡ p → ⊥) → shared_plan n ≡ p → ⊥
+pub shared_other : (n : ℕ) (p : Plan) → ((m : ℕ) → plans.Shared m ≡ p → ⊥) → ((c : Counted) → plans.TooMany c ≡ p → ⊥) → shared_plan n ≡ p → ⊥
 shared_other n p f g e = go (nat_lt 65536 n) e
   where
     go : (b : Bool) → cond b (plans.TooMany counted.Segments) (plans.Shared n) ≡ p → ⊥
@@ -134,7 +134,7 @@ status_breaks s h renderer name parts status e = some_that (λ (each : Status). 
 module _ (s : Session) (h : History) (event : Event) (renderer name : ℕ) (kind : List ℕ) (parts : List Part) (kept : Kept s h) (holders : HoldersSpawned h) (fresh : named name (builds s.limits.page h) ≡ false)
     (blobs : (plan : Answer) → plan ≡ build_answer s h renderer name parts → builds s.limits.page (heard h event plan) ≡ builds s.limits.page h ++ new_build s h renderer name kind parts ∷ [])
     (roots : (plan : Answer) (n : ℕ) → is_rooted s.limits.page (heard h event plan) n ≡ true → (is_rooted s.limits.page h n ≡ true) ⊎ ((n == name) ≡ true)) where
-  adds_by : (status : Option Status) → line_status s h renderer name parts ≡ status → Adds s.limits.page h (heard h event (build_answer_by s h name parts status)) (new_build s h renderer name kind parts)
+  pub adds_by : (status : Option Status) → line_status s h renderer name parts ≡ status → Adds s.limits.page h (heard h event (build_answer_by s h name parts status)) (new_build s h renderer name kind parts)
   adds_by (Some status) e = record {
     blobs = blobs (answers.Broken name status) (ap (build_answer_by s h name parts) (sym e));
     fresh = fresh;
@@ -166,7 +166,7 @@ module _ (s : Session) (h : History) (event : Event) (renderer name : ℕ) (kind
 
   -- ---- the bytes of the new pieces
 
-  abbrev added : Option Status → History
+  abbrev pub added : Option Status → History
   added status = heard h event (build_answer_by s h name parts status)
 
   abbrev whole_build : Build
@@ -227,7 +227,7 @@ module _ (s : Session) (h : History) (event : Event) (renderer name : ℕ) (kind
       false_true (sym waits ∙ sym (ap (λ (o : Option Build). option_map_or (is_granted (added status)) o false) (new_found piece at)) ∙ granted)
 
   -- the plan that the new blob has
-  plan_is : (status : Option Status) → line_status s h renderer name parts ≡ status → whole_build.plan ≡ plan_told (build_answer_by s h name parts status)
+  pub plan_is : (status : Option Status) → line_status s h renderer name parts ≡ status → whole_build.plan ≡ plan_told (build_answer_by s h name parts status)
   plan_is status e = ap (λ (o : Option Status). plan_told (build_answer_by s h name parts o)) e
 
   fits_by : (status : Option Status) (e : line_status s h renderer name parts ≡ status) → was_granted h name ≡ false → memory s.limits.page h ≤ s.limits.memory → memory s.limits.page (added status) ≤ s.limits.memory

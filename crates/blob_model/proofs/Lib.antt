@@ -35,3 +35,15 @@ pub mod FitLemmas
 pub mod BoundLemmas
 pub mod LimitLemmas
 pub mod ClosedLemmas
+pub mod ChargeLemmas
+pub mod NumberLemmas
+pub mod VictimLemmas
+pub mod UseLemmas
+pub mod StockLemmas
+pub mod SettleDisk
+pub mod JobDisk
+pub mod DryLemmas
+pub mod PaperLemmas
+pub mod BuildDisk
+pub mod StoreDisk
+pub mod DiskLemmas

@@ -51,19 +51,19 @@ use Rattle.blob_model.proofs.BoundLemmas.{is_plain, AllPlain, not_true, line_pla
 -- ---- what every legal transcript keeps
 
 -- only blobs that were built were granted
-abbrev GrantedBuilt : Session → History → Type 0
+abbrev pub GrantedBuilt : Session → History → Type 0
 GrantedBuilt s h = (name : ℕ) → was_granted h name ≡ true → named name (builds s.limits.page h) ≡ true
 
-record Bounded (s : Session) (h : History) : Type 0 where
-  kept : Kept s h
-  holders : HoldersSpawned h
-  granted : GrantedBuilt s h
-  fits : memory s.limits.page h ≤ s.limits.memory
+pub record Bounded (s : Session) (h : History) : Type 0 where
+  pub kept : Kept s h
+  pub holders : HoldersSpawned h
+  pub granted : GrantedBuilt s h
+  pub fits : memory s.limits.page h ≤ s.limits.memory
 
 -- ---- own answers
 
 -- roots of a line that builds
-build_roots : (s : Session) (h g : History) (renderer name : ℕ) → HoldersSpawned h → ((holder n : ℕ) → has_handle g holder n ≡ true → (((renderer == holder) && (name == n)) ≡ true) ⊎ (has_handle h holder n ≡ true))
+pub build_roots : (s : Session) (h g : History) (renderer name : ℕ) → HoldersSpawned h → ((holder n : ℕ) → has_handle g holder n ≡ true → (((renderer == holder) && (name == n)) ≡ true) ⊎ (has_handle h holder n ≡ true))
     → (n : ℕ) → (is_held g n ≡ true → (holder : ℕ) × (has_handle g holder n ≡ true)) → ((is_held g n || is_named h n) || is_read s.limits.page h n) ≡ true → (is_rooted s.limits.page h n ≡ true) ⊎ ((n == name) ≡ true)
 build_roots s h g renderer name holders handles n holder e =
     ⊎_elim
@@ -204,7 +204,7 @@ built_after s h group name legal e = go (builds s.limits.page (after h group.eve
     go later by_none = e
     go later (by_one renderer other kind parts) = any_append_first (λ (build : Build). build.name == name) (builds s.limits.page h) (_ ∷ []) e
 
-group_bounded : (s : Session) (h : History) (group : Group) → Bounded s h → IsLegalGroup s h group → Bounded s (after h group.event group.answers)
+pub group_bounded : (s : Session) (h : History) (group : Group) → Bounded s h → IsLegalGroup s h group → Bounded s (after h group.event group.answers)
 group_bounded s h group bounded legal =
     let own = legal.own in
     let owed = settle s (left_files group.answers) (after h group.event legal.own) in
@@ -228,7 +228,10 @@ bounded_from : (s : Session) (h : History) (groups : List Group) → Bounded s h
 bounded_from s h [] bounded legal = bounded
 bounded_from s h (group ∷ groups) bounded legal = bounded_from s (after h group.event group.answers) groups (group_bounded s h group bounded legal.0) legal.1
 
-pub memory_fits : (s : Session) (groups : List Group) → IsLegalFrom s start groups → memory s.limits.page (history_from start groups) ≤ s.limits.memory
-memory_fits s groups legal =
+pub bounded_start : (s : Session) → Bounded s start
+bounded_start s =
     let none : memory s.limits.page start ≡ 0 = refl in
-    (bounded_from s start groups (record { kept = kept_start s; holders = λ holder name e. absurd (false_true e); granted = λ name e. absurd (false_true e); fits = omega (arith, none) }) legal).fits
+    record { kept = kept_start s; holders = λ holder name e. absurd (false_true e); granted = λ name e. absurd (false_true e); fits = omega (arith, none) }
+
+pub memory_fits : (s : Session) (groups : List Group) → IsLegalFrom s start groups → memory s.limits.page (history_from start groups) ≤ s.limits.memory
+memory_fits s groups legal = (bounded_from s start groups (bounded_start s) legal).fits

@@ -104,7 +104,7 @@ sending_waits h build granted waits =
     go plan g e f granted' = false_true e
 
 -- the blob that gets a segment was built and is granted
-segment_found : (s : Session) (h : History) (renderer : RendererId) (b segment len : ℕ) (found : Option Build)
+pub segment_found : (s : Session) (h : History) (renderer : RendererId) (b segment len : ℕ) (found : Option Build)
     → AllByRecursion (λ (case : Bool × Refusal). case.0 ≡ false) (segment_refusals s h renderer b segment len found) → (build : Build) × (found ≡ Some build) × (is_granted h build ≡ true)
 segment_found s h renderer b segment len None tests = absurd (false_true (sym tests.0))
 segment_found s h renderer b segment len (Some build) tests =

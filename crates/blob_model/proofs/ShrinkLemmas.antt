@@ -127,7 +127,7 @@ still_unbroken b false f e = refl
 still_unbroken true true f e = e
 still_unbroken false true f e = absurd (false_true (f refl))
 
-holds_before : (page : ℕ) (h g : History) (piece : Piece) → Shrinks page h g → owns_some (live_cells page g) piece ≡ true → owns_some (live_cells page h) piece ≡ true
+pub holds_before : (page : ℕ) (h g : History) (piece : Piece) → Shrinks page h g → owns_some (live_cells page g) piece ≡ true → owns_some (live_cells page h) piece ≡ true
 holds_before page h g piece shrinks e =
     let now : list_any (holds_piece g piece) (live page g) ≡ true = sym (owns_as page g piece) ∙ e in
     let moved : list_any (holds_piece g piece) (live_from page g (reverse (builds page h)) []) ≡ true = subst (λ (xs : List Build). list_any (holds_piece g piece) (live_from page g (reverse xs) []) ≡ true) shrinks.blobs now in
@@ -139,7 +139,7 @@ holds_before page h g piece shrinks e =
     both (not (is_broken h build.name)) (some_passes (owns piece) build.cells) (still_unbroken (is_broken g build.name) (is_broken h build.name) (shrinks.broken build.name) parts.0) parts.1)
     among
 
-granted_before : (page : ℕ) (h g : History) (list : List Build) (piece : Piece) → Shrinks page h g → is_granted_piece g list piece ≡ true → is_granted_piece h list piece ≡ true
+pub granted_before : (page : ℕ) (h g : History) (list : List Build) (piece : Piece) → Shrinks page h g → is_granted_piece g list piece ≡ true → is_granted_piece h list piece ≡ true
 granted_before page h g list piece shrinks e = go (build_in list piece.blob) e
   where
     go : (found : Option Build) → option_map_or (is_granted g) found false ≡ true → option_map_or (is_granted h) found false ≡ true

@@ -5,7 +5,7 @@ use Rattle.answer_text.specs.declared.refusal.Refusal.{Refusal}
 use Rattle.answer_text.specs.declared.group.Group.{Group}
 use Rattle.blob_model.specs.Session.{Session}
 use Rattle.blob_model.specs.History.{start, history_from}
-use Rattle.blob_model.specs.Tally.{memory, tally}
+use Rattle.blob_model.specs.Tally.{memory, disk, tally}
 use Rattle.blob_model.specs.Settle.{IsSettled}
 use Rattle.blob_model.specs.Refusals.{refusal}
 use Rattle.blob_model.specs.Legal.{IsLegalGroup, IsLegalFrom}
@@ -24,3 +24,7 @@ RefusedSettlesNothing =
 -- after each group of a legal transcript the bytes in memory are within the limit
 abbrev pub MemoryFits : Type 0
 MemoryFits = (s : Session) (groups : List Group) → IsLegalFrom s start groups → memory s.limits.page (history_from start groups) ≤ s.limits.memory
+
+-- after each group of a legal transcript the bytes charged to the disk are within the limit
+abbrev pub DiskFits : Type 0
+DiskFits = (s : Session) (groups : List Group) → IsLegalFrom s start groups → disk s.limits.page (history_from start groups) ≤ s.limits.disk

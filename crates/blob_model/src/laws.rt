@@ -1,6 +1,6 @@
 ghost use Rattle.blob_model.specs.Laws.{ChangeLaws};
 ghost use Rattle.blob_model.specs.BuildLaws.{CellsAreSizes, LiveIsLeast, RootedLive, RenderersAreFew, LiveIsClosed, PiecesCover, PiecesAreFew};
-ghost use Rattle.blob_model.specs.SettledLaws.{SettledAfterEach, RefusedSettlesNothing, MemoryFits};
+ghost use Rattle.blob_model.specs.SettledLaws.{SettledAfterEach, RefusedSettlesNothing, MemoryFits, DiskFits};
 ghost use Rattle.blob_model.specs.LegalLaws.{FrontsAreLegal, MoreIsLegal, OneTranscript, ReachedAreGranted, ThinStaysForRoom, DiskIsAtMostTwice};
 
 /// After which lines and answers alone each notion changes.
@@ -72,6 +72,11 @@ pub fn refused_settles_nothing()
 /// After each group of a legal transcript the bytes in memory are within the limit.
 pub fn memory_fits()
     ensures { MemoryFits }
+{}
+
+/// After each group of a legal transcript the bytes charged to the disk are within the limit.
+pub fn disk_fits()
+    ensures { DiskFits }
 {}
 
 /// In a legal transcript whatever an unfinished live blob takes bytes from lives.
