@@ -1,6 +1,8 @@
-//! Tests of the base crates: shares, uses, the quota, plans, segments and views.
+//! Tests of the base crates: copies of names, shares, uses, the quota, plans, segments and views.
 #![tactic(auto)]
 
+#[cfg(test)]
+mod copies;
 #[cfg(test)]
 mod plans;
 #[cfg(test)]
