@@ -1,0 +1,6 @@
+//! A list of numbers that finds the first that is small enough, in logarithmic time.
+#![tactic(auto)]
+
+pub mod fit;
+
+pub use fit::FirstFit;

@@ -1,0 +1,126 @@
+-- How the calls end that write and move pieces. Own.
+use Rattle.std.specs.Prelude.{ℕ, ◌≡◌, ◌≢◌, true, false, List, [], ◌∷◌, length, Option, Some, None, Result, Ok, Err, IfSome, IsSomeAnd}
+use Rattle.blob_words.specs.declared.number.PieceNo.{PieceNo}
+use Rattle.blob_words.specs.declared.number.PageNo.{PageNo}
+use Rattle.blob_words.specs.declared.number.JobNo.{JobNo}
+use Rattle.blob_source.specs.Faults.{Rose}
+use Rattle.item_shares.specs.declared.shares.Share.{Share}
+use Rattle.item_shares.specs.Shares.{share_at}
+use Rattle.page_disk.specs.declared.change.Change.{Change}
+use Rattle.page_disk.specs.declared.change.Change.TheVariants as changes
+use Rattle.page_disk.specs.Changes.{with_change}
+use Rattle.page_files.specs.declared.ending.JobEnd.{JobEnd}
+use Rattle.page_files.specs.declared.ending.JobEnd.TheVariants as job_ends
+use Rattle.page_files.specs.declared.ending.MoveEnd.{MoveEnd}
+use Rattle.page_files.specs.declared.ending.MoveEnd.TheVariants as move_ends
+use Rattle.page_files.specs.declared.fault.JobFault.{JobFault}
+use Rattle.page_files.specs.declared.fault.JobFault.TheVariants as job_faults
+use Rattle.page_files.specs.declared.fault.MoveFault.{MoveFault}
+use Rattle.page_files.specs.declared.fault.MoveFault.TheVariants as move_faults
+use Rattle.page_files.specs.declared.fault.StoreFault.{StoreFault}
+use Rattle.page_files.specs.declared.fault.StoreFault.TheVariants as store_faults
+use Rattle.page_files.specs.declared.held.Held.{Held}
+use Rattle.page_files.specs.declared.next_page.NextPage.{NextPage}
+use Rattle.page_files.specs.declared.page.Page.TheVariants.{Torn, Whole}
+use Rattle.page_files.specs.Pieces.{bytes_of, names, placed}
+use Rattle.page_files.specs.Items.{bytes_in, turned}
+use Rattle.page_files.specs.Writes.{read_of}
+use Rattle.page_files.specs.Files.{Files, alone, is_compact_job, is_page_job, left_of, page_no, source_of, turned_off, unreserved, with_page, without_job, without_pieces}
+
+-- what a call sees: the page files, the items, what the disk did, where it tells, and its count of faults
+pub record Scene : Type 0 where
+  pub files : Files
+  pub shares : List (Option Share)
+  pub changes : Option (List Change)
+  pub faults : ℕ
+
+abbrev pub scene : Files → List (Option Share) → Option (List Change) → ℕ → Scene
+scene files shares changes faults = record { files = files; shares = shares; changes = changes; faults = faults }
+
+-- what is prepared for the write of pieces to the next page
+pub record IsNextPage (number : PageNo) (held : List Held) (next : NextPage) : Type 0 where
+  pub page : next.page ≡ number
+  pub size : next.size ≡ bytes_of held
+  pub pieces : next.pieces.items ≡ placed 0 held
+  pub table : next.table ≡ placed 0 held
+  pub list : next.list ≡ names held
+
+-- the number of the next page
+abbrev pub next_page : Scene → PageNo
+next_page scene = page_no (length scene.files.pages)
+
+-- the pieces left in the job in flight
+abbrev pub left : Scene → List Held
+left scene = left_of scene.files.job
+
+-- the pieces left, one after the other from the start of a page
+abbrev pub left_placed : Scene → List Held
+left_placed scene = placed 0 (left scene)
+
+-- the items and the disk are as they were
+abbrev pub IsStill : Scene → Scene → Type 0
+IsStill old new = (new.shares ≡ old.shares) × (new.changes ≡ old.changes)
+
+-- the pieces left are now in the next page: each item says so, and every other slot is as it was
+abbrev pub AreTurned : Scene → Scene → Type 0
+AreTurned old new = (slot : ℕ) → share_at new.shares slot ≡ turned (next_page old) (left_placed old) slot (share_at old.shares slot)
+
+-- the write of the next page failed, and the items are as they were
+abbrev pub IsTorn : Scene → Scene → Type 0
+IsTorn old new = (new.shares ≡ old.shares) × (new.changes ≡ with_change (changes.Torn (next_page old)) old.changes) × Rose old.faults new.faults
+
+-- the page job: its pieces are in the next page, whose bytes are those of the items in memory
+abbrev pub JobEnds : JobNo → Scene → Scene → Result JobEnd JobFault → Type 0
+JobEnds job old new (Ok (job_ends.Paged page pieces)) =
+    (is_page_job job old.files.job ≡ true) × (left old ≢ [])
+    × (page ≡ next_page old) × (pieces ≡ names (left old))
+    × (new.files ≡ with_page (Whole (bytes_of (left old)) (left_placed old)) (without_job old.files))
+    × (new.changes ≡ with_change (changes.Put page (bytes_in old.shares (left old))) old.changes)
+    × AreTurned old new
+JobEnds job old new (Ok job_ends.Empty) =
+    (is_page_job job old.files.job ≡ true) × (left old ≡ []) × (new.files ≡ without_job old.files) × IsStill old new × (new.faults ≡ old.faults)
+JobEnds job old new (Err job_faults.NoJob) =
+    (is_page_job job old.files.job ≡ false) × (new.files ≡ old.files) × IsStill old new × (new.faults ≡ old.faults)
+JobEnds job old new (Err (job_faults.Failed page)) =
+    (is_page_job job old.files.job ≡ true) × (left old ≢ [])
+    × (page ≡ next_page old) × (new.files ≡ with_page Torn (turned_off old.files)) × IsTorn old new
+JobEnds job old new (Err job_faults.NoMemory) =
+    (is_page_job job old.files.job ≡ true) × (new.files ≡ old.files) × IsStill old new × (new.faults ≡ old.faults)
+
+-- what was read of the page that the job moves, where the disk tells
+abbrev pub moved_bytes : PageNo → Scene → List Change → List ℕ
+moved_bytes source scene changes = read_of source changes (left scene)
+
+-- the compact job: its pieces are in the next page and reached in their old one no more; want of memory may come after reads
+abbrev pub MoveEnds : JobNo → Scene → Scene → Result MoveEnd MoveFault → Type 0
+MoveEnds job old new (Ok (move_ends.Moved page pieces)) =
+    (is_compact_job job old.files.job ≡ true) × (left old ≢ [])
+    × (page ≡ next_page old) × (pieces ≡ names (left old))
+    × IsSomeAnd (source_of old.files.job) (λ source.
+        (new.files ≡ without_pieces source.0 (left old) (with_page (Whole (bytes_of (left old)) (left_placed old)) (without_job old.files)))
+        × IfSome old.changes (λ before. new.changes ≡ with_change (changes.Put page (moved_bytes source old before)) old.changes))
+    × AreTurned old new
+MoveEnds job old new (Ok move_ends.Empty) =
+    (is_compact_job job old.files.job ≡ true) × (left old ≡ []) × (new.files ≡ without_job old.files) × IsStill old new × (new.faults ≡ old.faults)
+MoveEnds job old new (Err move_faults.NoJob) =
+    (is_compact_job job old.files.job ≡ false) × (new.files ≡ old.files) × IsStill old new × (new.faults ≡ old.faults)
+MoveEnds job old new (Err (move_faults.Unread page)) =
+    (is_compact_job job old.files.job ≡ true) × (left old ≢ [])
+    × (source_of old.files.job ≡ Some page) × (new.files ≡ turned_off old.files) × IsStill old new × Rose old.faults new.faults
+MoveEnds job old new (Err (move_faults.Failed page)) =
+    (is_compact_job job old.files.job ≡ true) × (left old ≢ [])
+    × (page ≡ next_page old) × (new.files ≡ with_page Torn (turned_off old.files)) × IsTorn old new
+MoveEnds job old new (Err move_faults.NoMemory) =
+    (is_compact_job job old.files.job ≡ true) × (new.files ≡ old.files) × IsStill old new
+
+-- a reserved piece with its bytes: it is in the next page, alone; a fault leaves it reserved
+abbrev pub StoreEnds : PieceNo → ℕ → List ℕ → Scene → Scene → Result PageNo StoreFault → Type 0
+StoreEnds piece slot bytes old new (Ok page) =
+    (page ≡ next_page old)
+    × (new.files ≡ with_page (Whole (length bytes) (alone piece slot (length bytes) ∷ [])) (unreserved (length bytes) old.files))
+    × (new.changes ≡ with_change (changes.Put page bytes) old.changes)
+    × ((other : ℕ) → share_at new.shares other ≡ turned page (alone piece slot (length bytes) ∷ []) other (share_at old.shares other))
+StoreEnds piece slot bytes old new (Err (store_faults.Failed page)) =
+    (page ≡ next_page old) × (new.files ≡ with_page Torn old.files) × IsTorn old new
+StoreEnds piece slot bytes old new (Err store_faults.NoMemory) =
+    (new.files ≡ old.files) × IsStill old new × (new.faults ≡ old.faults)

@@ -1,0 +1,68 @@
+ghost use Rattle.std.specs.Prelude.{◌≡◌, ◌+◌, ◌-◌, ◌^◌, ◌≤◌, None, length, min, IfSome, OnErr, OnOk};
+ghost use Rattle.std.specs.List.{AllByRecursion};
+ghost use Rattle.blob_source.specs.Faults.{Rose};
+ghost use Rattle.page_disk.specs.Changes.{HasRange};
+ghost use Rattle.page_files.specs.Pieces.{bytes_of};
+ghost use Rattle.page_files.specs.Writes.{range_of, read_of, spliced};
+
+use crate::held::Held;
+use blob_words::{Failed, PageNo};
+use page_disk::PageDisk;
+
+// Reads one piece into its place in the buffer.
+fn read_at<D: PageDisk>(
+    disk: &mut D,
+    page: PageNo,
+    held: &Held,
+    buffer: &mut [u8],
+    start: usize,
+) -> Result<(), Failed>
+    requires closed { D.writing disk.old ≡ None }
+    requires there { IfSome (D.changes disk.old) (HasRange page.0 held.now.off held.now.len) }
+    requires fits { start + held.now.len ≤ length buffer.old }
+    ensures closed { D.writing disk.new ≡ None }
+    ensures same { D.changes disk.new ≡ D.changes disk.old }
+    ensures len { length buffer.new ≡ length buffer.old }
+    ensures bytes { OnOk result (IfSome (D.changes disk.old) (λ changes. buffer.new
+        ≡ spliced start (range_of page changes held.now) buffer.old)) }
+    ensures failed { OnErr result (Rose (D.faults disk.old) (D.faults disk.new)) }
+    ensures later { D.faults disk.old ≤ D.faults disk.new }
+    ensures read { OnOk result (D.meter disk.new ≡ min (D.meter disk.old + held.now.len) (2 ^ 64 - 1)) }
+    ensures unread { OnErr result (D.meter disk.new ≡ D.meter disk.old) }
+{
+    let end = start + held.len as usize;
+    disk.get(page, held.off, &mut buffer[start..end])
+}
+
+// Reads the pieces of a page one after the other into a buffer as long as all of them, and stops at
+// the first that the disk fails to read.
+pub fn read_pieces<D: PageDisk>(
+    disk: &mut D,
+    page: PageNo,
+    pieces: &[Held],
+    buffer: &mut [u8],
+) -> Result<(), Failed>
+    requires closed { D.writing disk.old ≡ None }
+    requires there { IfSome (D.changes disk.old) (λ changes.
+        AllByRecursion (λ held. HasRange page.0 held.off held.len changes) pieces.now) }
+    requires fits { length buffer.old ≡ bytes_of pieces.now }
+    ensures closed { D.writing disk.new ≡ None }
+    ensures same { D.changes disk.new ≡ D.changes disk.old }
+    ensures len { length buffer.new ≡ length buffer.old }
+    ensures bytes { OnOk result (IfSome (D.changes disk.old) (λ changes. buffer.new
+        ≡ read_of page changes pieces.now)) }
+    ensures failed { OnErr result (Rose (D.faults disk.old) (D.faults disk.new)) }
+    ensures later { D.faults disk.old ≤ D.faults disk.new }
+    ensures read { OnOk result (D.meter disk.new
+        ≡ min (D.meter disk.old + bytes_of pieces.now) (2 ^ 64 - 1)) }
+    ensures meter { D.meter disk.old ≤ D.meter disk.new }
+{
+    let mut start = 0;
+    for held in pieces {
+        match read_at(disk, page, held, buffer, start) {
+            Ok(()) => start += held.len as usize,
+            Err(Failed) => return Err(Failed),
+        }
+    }
+    Ok(())
+}
