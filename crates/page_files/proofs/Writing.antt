@@ -92,3 +92,26 @@ appended_all old new told now came more bytes rest so none =
 pub rose_from : (old mid new : ℕ) → old ≤ mid → Rose mid new → Rose old new
 rose_from old mid new later (inl more) = inl (omega (arith, later, more))
 rose_from old mid new later (inr most) = inr most
+
+-- so many bytes were appended, and these
+pub record Added (old new : Option OpenWrite) (told now : Option (List Change)) (came more : List ℕ) (count : ℕ) (bytes : List ℕ) : Type 0 where
+  pub write : new ≡ with_more count old
+  pub same : now ≡ told
+  pub last : IfSome now (λ _. more ≡ came ++ bytes)
+
+pub added_none : (write : Option OpenWrite) (told : Option (List Change)) (came : List ℕ) → Added write write told told came came 0 []
+added_none write told came = record { write = more_zero write; same = refl; last = none_came told came }
+
+pub added_more : (old mid new : Option OpenWrite) (told now later : Option (List Change)) (came more last : List ℕ) (count size : ℕ) (bytes run : List ℕ)
+    → Added old mid told now came more count bytes → new ≡ with_more size mid → later ≡ now → IfSome later (λ _. last ≡ more ++ run)
+    → Added old new told later came last (count + size) (bytes ++ run)
+added_more old mid new told now later came more last count size bytes run so write same came_so = record {
+  write = write ∙ ap (with_more size) so.write ∙ more_more count size old;
+  same = same ∙ so.same;
+  last = came_more now later came more last bytes run same so.last came_so;
+}
+
+-- there is room for one piece more
+pub room_for : (n m size : ℕ) (write mid : Option OpenWrite) → IsSomeAnd write (λ write. write.came + size ≤ write.len) → mid ≡ with_more n write → n + m ≤ size → IsSomeAnd mid (λ write. write.came + m ≤ write.len)
+room_for n m size None mid fits is sum = absurd fits
+room_for n m size (Some write) mid fits is sum = rw is (omega (arith, fits, sum))

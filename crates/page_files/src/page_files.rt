@@ -425,8 +425,8 @@ impl PageFiles {
             (scene self.old shares.old (D.changes disk.old) (D.faults disk.old))
             (scene self.new shares.new (D.changes disk.new) (D.faults disk.new)) result }
         ensures later { D.faults disk.old ≤ D.faults disk.new }
-        ensures meter { D.meter disk.old ≤ D.meter disk.new }
-        ensures read { IfOk result (λ _. D.meter disk.new
+        ensures meter { min (D.meter disk.old) (2 ^ 64 - 1) ≤ D.meter disk.new }
+        ensures read { IfOk result (λ _. min (D.meter disk.new) (2 ^ 64 - 1)
             ≡ min (D.meter disk.old + bytes_of (left_of self.old.job)) (2 ^ 64 - 1)) }
     {
         let (source, left) = match self.left_in(job) {

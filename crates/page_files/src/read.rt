@@ -53,9 +53,9 @@ pub fn read_pieces<D: PageDisk>(
         ≡ read_of page changes pieces.now)) }
     ensures failed { OnErr result (Rose (D.faults disk.old) (D.faults disk.new)) }
     ensures later { D.faults disk.old ≤ D.faults disk.new }
-    ensures read { OnOk result (D.meter disk.new
+    ensures read { OnOk result (min (D.meter disk.new) (2 ^ 64 - 1)
         ≡ min (D.meter disk.old + bytes_of pieces.now) (2 ^ 64 - 1)) }
-    ensures meter { D.meter disk.old ≤ D.meter disk.new }
+    ensures meter { min (D.meter disk.old) (2 ^ 64 - 1) ≤ D.meter disk.new }
 {
     let mut start = 0;
     for held in pieces {
