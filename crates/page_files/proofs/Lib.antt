@@ -1,4 +1,5 @@
 pub mod Items
 pub mod Lists
+pub mod Pages
 pub mod Turning
 pub mod Writing
