@@ -1,5 +1,6 @@
 pub mod Items
 pub mod Lists
 pub mod Pages
+pub mod Places
 pub mod Turning
 pub mod Writing
