@@ -1,16 +1,17 @@
 -- Pages by their keys.
-use Rattle.std.proofs.Common.{◌≡◌, ℕ, ◌+◌, ◌*◌, ◌-◌, ◌^◌, ◌<◌, ◌≤◌, ◌&&◌, Bool, true, false, cond, not, List, [], ◌∷◌, ◌++◌, zero, suc, Some, None, Option, length, map, min, nat_le, nat_lt, set, take, refl, sym, ap, ◌∙◌, arith}
-use Rattle.std.specs.List.{AllByRecursion, position, prefix_len}
+use Rattle.std.proofs.Common.{◌≡◌, ℕ, ◌+◌, ◌*◌, ◌-◌, ◌^◌, ◌<◌, ◌≤◌, ◌&&◌, Bool, true, false, cond, not, List, [], ◌∷◌, ◌++◌, zero, suc, Some, None, Option, length, map, min, nat_eq, nat_le, nat_lt, get_or, set, subst, take, refl, sym, ap, ◌∙◌, arith}
+use Rattle.std.specs.List.{AllByRecursion, IsDistinct, position, prefix_len}
 use Rattle.std.proofs.lemmas.Bool.{ltb-true}
 use Rattle.std.proofs.lemmas.Bool.Decides.{nat_tests}
 use Rattle.std.proofs.lemmas.List.{length-map}
 use Rattle.blob_words.specs.declared.number.PieceNo.{PieceNo}
 use Rattle.page_files.specs.declared.page.Page.{Page}
 use Rattle.page_files.specs.declared.page.Page.TheVariants.{Torn, Whole, Asked}
-use Rattle.page_files.specs.Pieces.{bytes_of}
+use Rattle.page_files.specs.declared.held.Held.{Held}
+use Rattle.page_files.specs.Pieces.{bytes_of, numbers}
 use Rattle.page_files.specs.Pages.{can_move, is_due, is_held, is_thin, page_at, pieces_of, released, size_of}
 use Rattle.page_files.specs.Keys.{due_key, thin_key, HasSize}
-use Rattle.page_files.proofs.Lists.{all_then}
+use Rattle.page_files.proofs.Lists.{all_at, all_then}
 
 pub all_push : {X : Type 0} (P : X → Type 0) (xs : List X) (y : X) → AllByRecursion P xs → P y → AllByRecursion P (xs ++ y ∷ [])
 all_push P [] y all one = (one, tt)
@@ -32,7 +33,7 @@ prefix_same f p q [] all = refl
 prefix_same f p q (x ∷ xs) all = rw (all.0, prefix_same f p q xs all.1) refl
 
 pub position_same : {X : Type 0} (f : X → ℕ) (p : ℕ → Bool) (q : X → Bool) (xs : List X) → AllByRecursion (λ x. p (f x) ≡ q x) xs → position p (map f xs) ≡ position q xs
-position_same f p q xs all = rw (prefix_same f p q xs all, length-map f xs) refl
+position_same f p q xs all = rw (prefix_same f p q xs all, length-map xs f) refl
 
 -- a thin page's key is small enough exactly where its pieces have room
 key_by : (bytes size room : ℕ) (held : Bool) → size < 2 ^ 64 → nat_le (cond (held && nat_lt (2 * bytes) size) bytes (2 ^ 64 - 1)) (min room (2 ^ 64 - 2)) ≡ ((held && nat_lt (2 * bytes) size) && nat_le bytes room)
@@ -58,3 +59,15 @@ pub released_size : (piece : PieceNo) (page : Page) → size_of (released piece 
 released_size piece Torn = refl
 released_size piece (Whole size pieces) = refl
 released_size piece Asked = refl
+
+pub size_after : (pages : List Page) (place : ℕ) (page : Page) (piece : PieceNo) → AllByRecursion HasSize pages → place < length pages → page ≡ get_or pages place page → HasSize (released piece page)
+size_after pages place page piece sizes inside is = rw (released_size piece page) (subst HasSize (sym is) (all_at HasSize pages place page inside sizes))
+
+-- no pieces are apart
+pub none_apart : IsDistinct nat_eq []
+unfolding IsDistinct
+none_apart = tt
+
+pub apart_none : (pieces : List Held) → pieces ≡ [] → IsDistinct nat_eq (numbers pieces)
+apart_none [] none = none_apart
+apart_none (held ∷ pieces) none = cc

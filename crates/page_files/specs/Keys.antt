@@ -2,7 +2,7 @@
 use Rattle.std.specs.Prelude.{ℕ, ◌-◌, ◌^◌, ◌<◌, if◌then◌else◌}
 use Rattle.page_files.specs.declared.page.Page.{Page}
 use Rattle.page_files.specs.Pieces.{bytes_of}
-use Rattle.page_files.specs.Pages.{is_due, is_thin, pieces_of}
+use Rattle.page_files.specs.Pages.{is_due, is_thin, pieces_of, size_of}
 
 -- the bytes of the reached pieces of a thin page, else the greatest number
 abbrev pub thin_key : Page → ℕ

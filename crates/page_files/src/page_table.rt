@@ -152,6 +152,7 @@ impl PageTable {
     }
 
     /// The reached pieces in the page, by rising offset.
+    #[tactic(auto, using(crate::proofs::Pages::apart_none))]
     pub fn pieces_at(&self, alloc: Global, place: usize) -> Result<Vec<Held>, NoMemory>
         ensures value { IfOk result (λ list. list.items ≡ pieces_at self.now place) }
         ensures apart { IsDistinct nat_eq (numbers (pieces_at self.now place)) }

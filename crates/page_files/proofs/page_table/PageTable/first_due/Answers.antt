@@ -9,4 +9,4 @@ pub returns : goal.returns
 returns c =
     let pages = c.self.inside.pages.items in
     let keys = position_same due_key (λ (key : ℕ). nat_le key 0) is_due pages (due_keys pages) in
-    c.first.ensures ∙ rw c.self.invariant.1 keys
+    c.first.ensures ∙ rw (c.self.invariant.1, ← c.self.view_is) keys
