@@ -1,3 +1,5 @@
+pub mod Agreement
+pub mod Charges
 pub mod Items
 pub mod Lists
 pub mod Pages

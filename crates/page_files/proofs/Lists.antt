@@ -1,10 +1,11 @@
 -- Lists of pieces, one by one.
-use Rattle.std.proofs.Common.{◌≡◌, ℕ, ◌+◌, ◌<◌, ◌≤◌, List, [], ◌∷◌, ◌++◌, zero, suc, length, get_or, take, refl, sym, ap, ◌∙◌, arith}
-use Rattle.std.specs.List.{AllByRecursion}
+use Rattle.std.proofs.Common.{◌≡◌, ℕ, ◌+◌, ◌<◌, ◌≤◌, Bool, true, false, cond, not, nat_eq, map, subst, List, [], ◌∷◌, ◌++◌, zero, suc, length, get_or, take, refl, sym, ap, ◌∙◌, arith}
+use Rattle.std.specs.List.{AllByRecursion, IsDistinct}
+use Rattle.blob_words.specs.declared.number.PieceNo.{PieceNo}
 use Rattle.std.proofs.lemmas.List.{take_more}
 use Rattle.std.proofs.lemmas.List.Sums.{sum_by-append, sum_by-cons, sum_by-take-le}
 use Rattle.page_files.specs.declared.held.Held.{Held}
-use Rattle.page_files.specs.Pieces.{bytes_of, placed}
+use Rattle.page_files.specs.Pieces.{bytes_of, named, numbers, placed, without, HasBytes}
 
 -- what holds of all holds of each
 pub all_at : {X : Type 0} (P : X → Type 0) (xs : List X) (i : ℕ) (d : X) → i < length xs → AllByRecursion P xs → P (get_or xs i d)
@@ -43,3 +44,35 @@ placed_more pieces i d inside = ap (placed 0) (take_more pieces i d inside) ∙ 
 pub placed_bytes : (off : ℕ) (pieces : List Held) → bytes_of (placed off pieces) ≡ bytes_of pieces
 placed_bytes off [] = refl
 placed_bytes off (held ∷ pieces) = bytes_cons (record held { off = off }) (placed (off + held.len) pieces) ∙ ap (λ n. held.len + n) (placed_bytes (off + held.len) pieces) ∙ sym (bytes_cons held pieces)
+
+pub placed_numbers : (off : ℕ) (pieces : List Held) → numbers (placed off pieces) ≡ numbers pieces
+placed_numbers off [] = refl
+placed_numbers off (held ∷ pieces) = ap (λ rest. held.piece.0 ∷ rest) (placed_numbers (off + held.len) pieces)
+
+pub placed_long : (off : ℕ) (pieces : List Held) → AllByRecursion HasBytes pieces → AllByRecursion HasBytes (placed off pieces)
+placed_long off [] all = tt
+placed_long off (held ∷ pieces) all = (all.0, placed_long (off + held.len) pieces all.1)
+
+-- pieces are apart wherever they are placed
+pub placed_apart : (off : ℕ) (pieces : List Held) → IsDistinct nat_eq (numbers pieces) → IsDistinct nat_eq (numbers (placed off pieces))
+placed_apart off pieces apart = subst (IsDistinct nat_eq) (sym (placed_numbers off pieces)) apart
+
+pub named_apart : (given : List (PieceNo × ℕ × ℕ)) → IsDistinct nat_eq (map (λ (piece : PieceNo × ℕ × ℕ). piece.0.0) given) → IsDistinct nat_eq (numbers (map named given))
+named_apart given apart = subst (IsDistinct nat_eq) (sym (same given)) apart
+  where
+    same : (given : List (PieceNo × ℕ × ℕ)) → numbers (map named given) ≡ map (λ (piece : PieceNo × ℕ × ℕ). piece.0.0) given
+    same [] = refl
+    same (piece ∷ given) = ap (λ rest. piece.0.0 ∷ rest) (same given)
+
+pub named_long : (given : List (PieceNo × ℕ × ℕ)) → AllByRecursion (λ (piece : PieceNo × ℕ × ℕ). 0 < piece.2) given → AllByRecursion HasBytes (map named given)
+named_long [] all = tt
+named_long (piece ∷ given) all = (all.0, named_long given all.1)
+
+without_by : (keeps : Bool) (held : Held) (rest pieces : List Held) → bytes_of rest ≤ bytes_of pieces → bytes_of (cond keeps (held ∷ rest) rest) ≤ bytes_of (held ∷ pieces)
+without_by true held rest pieces less = omega (arith, bytes_cons held rest, bytes_cons held pieces, less)
+without_by false held rest pieces less = omega (arith, bytes_cons held pieces, less)
+
+-- a piece fewer has no more bytes
+pub without_bytes : (piece : PieceNo) (pieces : List Held) → bytes_of (without piece pieces) ≤ bytes_of pieces
+without_bytes piece [] = omega arith
+without_bytes piece (held ∷ pieces) = without_by (not (nat_eq piece.0 held.piece.0)) held (without piece pieces) pieces (without_bytes piece pieces)

@@ -97,8 +97,8 @@ MoveEnds job old new (Ok (move_ends.Moved page pieces)) =
     (is_compact_job job old.files.job ≡ true) × (left old ≢ [])
     × (page ≡ next_page old) × (pieces ≡ names (left old))
     × IsSomeAnd (source_of old.files.job) (λ source.
-        (new.files ≡ without_pieces source.0 (left old) (with_page (Whole (bytes_of (left old)) (left_placed old)) (without_job old.files)))
-        × IfSome old.changes (λ before. new.changes ≡ with_change (changes.Put page (moved_bytes source old before)) old.changes))
+    (new.files ≡ without_pieces source.0 (left old) (with_page (Whole (bytes_of (left old)) (left_placed old)) (without_job old.files)))
+    × IfSome old.changes (λ before. new.changes ≡ with_change (changes.Put page (moved_bytes source old before)) old.changes))
     × AreTurned old new
 MoveEnds job old new (Ok move_ends.Empty) =
     (is_compact_job job old.files.job ≡ true) × (left old ≡ []) × (new.files ≡ without_job old.files) × IsStill old new × (new.faults ≡ old.faults)

@@ -6,9 +6,8 @@ use Rattle.page_files.proofs.Pages.{all_set}
 use Rattle.page_files.proofs.page_table.PageTable.put.Goals as goal
 
 pub invariant_of-self : goal.invariant_of-self
-invariant_of-self c =
-    (
-      rw (c.set.ensures, c.self.invariant.0, c.thin_key.ensures) (sym (map-set thin_key c.self.inside.pages.items c.args.place c.args.page)),
-      rw (c.set-2.ensures, c.self.invariant.1, c.due_key.ensures) (sym (map-set due_key c.self.inside.pages.items c.args.place c.args.page)),
-      all_set HasSize c.self.inside.pages.items c.args.place c.args.page c.self.invariant.2 c.requires.size
-    )
+invariant_of-self c = (
+  rw (c.set.ensures, c.self.invariant.0, c.thin_key.ensures) (sym (map-set thin_key c.self.inside.pages.items c.args.place c.args.page)),
+  rw (c.set-2.ensures, c.self.invariant.1, c.due_key.ensures) (sym (map-set due_key c.self.inside.pages.items c.args.place c.args.page)),
+  all_set HasSize c.self.inside.pages.items c.args.place c.args.page c.self.invariant.2 c.requires.size,
+)
