@@ -1,17 +1,19 @@
 -- The pages not asked for, and what a disk tells of them.
-use Rattle.std.proofs.Common.{◌≡◌, ◌≢◌, ℕ, ◌<◌, ◌≤◌, ◌+◌, ◌==◌, ◌&&◌, ◌||◌, Bool, true, false, not, List, [], ◌∷◌, ◌++◌, zero, suc, Some, None, Option, get_or, length, set, refl, sym, ap, ◌∙◌, arith, subst}
+use Rattle.std.proofs.Common.{◌≡◌, ◌≢◌, ℕ, ◌<◌, ◌≤◌, ◌+◌, ◌==◌, ◌&&◌, ◌||◌, Bool, true, false, not, List, [], ◌∷◌, ◌++◌, zero, suc, Some, None, Option, get_or, length, set, refl, sym, ap, ◌∙◌, arith, subst, inl, inr, ◌⊎◌}
 use Rattle.std.specs.Prelude.{IfSome}
 use Rattle.std.specs.List.{list_any}
-use Rattle.std.proofs.lemmas.Bool.{eqb-true, eqb-false, ne_eqb}
+use Rattle.std.proofs.lemmas.Bool.{eqb-true, eqb-false, ne_eqb, cases_lt}
 use Rattle.std.proofs.lemmas.List.{get_or-set_other, get_or-set_same, length-append, length-set}
+use Rattle.std.proofs.Math.Seq.{set_out}
 use Rattle.std.proofs.lemmas.List.Folds.{list_any-append}
 use Rattle.blob_words.specs.declared.number.PageNo.{PageNo}
+use Rattle.blob_words.specs.declared.number.PieceNo.{PieceNo}
 use Rattle.page_disk.specs.declared.change.Change.{Change}
 use Rattle.page_disk.specs.declared.change.Change.TheVariants.{Put, Torn, Remove, Left}
 use Rattle.page_disk.specs.Changes.{removes, with_change, writes, IsNew, Stands}
 use Rattle.page_files.specs.declared.page.Page.{Page}
-use Rattle.page_files.specs.declared.page.Page.TheVariants.{Asked}
-use Rattle.page_files.specs.Pages.{is_unasked, page_at}
+use Rattle.page_files.specs.declared.page.Page.TheVariants.{Torn, Whole, Asked}
+use Rattle.page_files.specs.Pages.{is_unasked, page_at, released, released_at}
 use Rattle.page_files.specs.Files.{is_named, is_standing, page_no, removal, Agrees}
 
 first_false : (a b : Bool) → (a || b) ≡ false → a ≡ false
@@ -154,3 +156,25 @@ pub unasked_inside : (pages : List Page) (page : ℕ) → is_unasked (page_at pa
 unasked_inside [] page is = cc
 unasked_inside (first ∷ pages) zero is = omega arith
 unasked_inside (first ∷ pages) (suc page) is = let less = unasked_inside pages page is in omega (arith, less)
+
+released_unasked : (piece : PieceNo) (page : Page) → is_unasked (released piece page) ≡ is_unasked page
+released_unasked piece Torn = refl
+released_unasked piece (Whole size pieces) = refl
+released_unasked piece Asked = refl
+
+released_page : (number : ℕ) (piece : PieceNo) (pages : List Page) (other : ℕ) (r : Bool) → (other == number) ≡ r → is_unasked (page_at (released_at number piece pages) other) ≡ is_unasked (page_at pages other)
+released_page number piece pages other true is = by (cases_lt number (length pages))
+  where
+    same : other ≡ number
+    same = eqb-true other number is
+    by : (number < length pages) ⊎ (length pages ≤ number) → is_unasked (page_at (released_at number piece pages) other) ≡ is_unasked (page_at pages other)
+    by (inl inside) = rw same (ap is_unasked (get_or-set_same pages number (released piece (page_at pages number)) Asked inside) ∙ released_unasked piece (page_at pages number))
+    by (inr past) = rw (set_out pages number (released piece (page_at pages number)) past) refl
+released_page number piece pages other false is = ap is_unasked (get_or-set_other pages number other (released piece (page_at pages number)) Asked (eqb-false other number is))
+
+-- a piece fewer changes nothing that the disk tells of
+pub agrees_released : (number : ℕ) (piece : PieceNo) (pages : List Page) (changes : List Change) → Agrees pages changes → Agrees (released_at number piece pages) changes
+agrees_released number piece pages changes so = record {
+  standing = λ other. so.standing other ∙ sym (released_page number piece pages other (other == number) refl);
+  above = λ other past. so.above other (omega (arith, past, length-set pages number (released piece (page_at pages number))));
+}

@@ -1,8 +1,10 @@
 pub mod Agreement
 pub mod Charges
+pub mod Closing
 pub mod Items
 pub mod Lists
 pub mod Pages
 pub mod Places
+pub mod Releasing
 pub mod Turning
 pub mod Writing

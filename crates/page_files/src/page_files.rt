@@ -4,12 +4,13 @@ pub mod moves;
 pub mod removal;
 pub mod writes;
 
-ghost use Rattle.std.specs.Prelude.{◌≡◌, ◌+◌, ◌-◌, ◌^◌, ◌<◌, ◌≤◌, None, Some, true, false, length, nat_eq, option_map, take, IfOk, IsErrOf, OnErr};
+ghost use Rattle.std.specs.Prelude.{List, ◌≡◌, ◌+◌, ◌-◌, ◌^◌, ◌<◌, ◌≤◌, None, Some, true, false, length, nat_eq, option_map, take, IfOk, IsErrOf, OnErr};
 ghost use Rattle.std.specs.List.{AllByRecursion, IsDistinct};
 ghost use Rattle.page_files.specs.Pieces.{bytes_of, numbers, HasBytes};
 ghost use Rattle.page_files.specs.Pages.{held_count, released_at};
 ghost use Rattle.page_files.specs.Items.{turned};
-ghost use Rattle.page_files.specs.Files.{charge, is_in_flight, job_no, left_of, new_files, room, source_of, struck, thin, turned_off, with_job, without_job};
+ghost use Rattle.page_disk.specs.declared.change.Change.{Change};
+ghost use Rattle.page_files.specs.Files.{charge, is_in_flight, job_no, left_of, new_files, room, source_of, struck, thin, turned_off, with_job, without_job, Agrees};
 
 use crate::fault::{JobFault, NoJob};
 use crate::held::Held;
@@ -156,8 +157,11 @@ impl PageFiles {
     }
 
     /// A piece of a page is reached there no more. Nothing changes where it isn't.
+    #[tactic(auto, using(crate::proofs::Agreement::agrees_released))]
     pub fn release_piece(&mut self, page: PageNo, piece: PieceNo)
-        ensures { self.new ≡ record self.old { pages = released_at page.0 piece self.old.pages } }
+        ensures files { self.new ≡ record self.old { pages = released_at page.0 piece self.old.pages } }
+        ensures agrees { (changes : List Change) → Agrees self.old.pages changes
+            → Agrees self.new.pages changes }
     {
         let place = page.0 as usize;
         let was_held = self.table.is_held(place);

@@ -4,7 +4,7 @@ ghost use Rattle.std.specs.List.{sum_by, AllByRecursion, IsDistinct};
 ghost use Rattle.item_shares.specs.Shares.{item_at};
 ghost use Rattle.page_files.specs.Pieces.{named, numbers};
 ghost use Rattle.page_files.specs.Items.{piece_of, IsMemoryIn, IsReservedOf};
-ghost use Rattle.page_files.specs.Files.{is_in_flight, job_no, left_of, room, turned_off, with_job, Agrees};
+ghost use Rattle.page_files.specs.Files.{source_of, is_in_flight, job_no, left_of, room, turned_off, with_job, Agrees};
 ghost use Rattle.page_files.specs.Ends.{scene, JobEnds, StoreEnds};
 
 use crate::copies::named;
@@ -62,7 +62,8 @@ impl PageFiles {
     ) -> Result<JobEnd, JobFault>
         requires closed { D.writing disk.old ≡ None }
         requires agrees { IfSome (D.changes disk.old) (Agrees self.old.pages) }
-        requires items { AllByRecursion (IsMemoryIn shares.old) (left_of self.old.job) }
+        requires items { source_of self.old.job ≡ None
+            → AllByRecursion (IsMemoryIn shares.old) (left_of self.old.job) }
         requires numbers { length self.old.pages < 2 ^ 31 }
         ensures closed { D.writing disk.new ≡ None }
         ensures agrees { IfSome (D.changes disk.new) (Agrees self.new.pages) }

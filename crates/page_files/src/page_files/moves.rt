@@ -1,6 +1,7 @@
 //! Compact jobs.
-ghost use Rattle.std.specs.Prelude.{◌≡◌, ◌+◌, ◌-◌, ◌^◌, ◌<◌, ◌≤◌, None, Some, true, length, min, IfOk, IfSome, OnErr};
+ghost use Rattle.std.specs.Prelude.{List, ◌≡◌, ◌+◌, ◌-◌, ◌^◌, ◌<◌, ◌≤◌, None, Some, true, length, min, IfOk, IfSome, OnErr};
 ghost use Rattle.std.specs.List.{AllByRecursion};
+ghost use Rattle.page_disk.specs.declared.change.Change.{Change};
 ghost use Rattle.page_disk.specs.Changes.{HasRange};
 ghost use Rattle.page_files.specs.Pieces.{bytes_of, names, numbers};
 ghost use Rattle.page_files.specs.Pages.{pieces_at};
@@ -119,7 +120,9 @@ impl PageFiles {
 
     // The pieces of a page are reached there no more.
     fn release_all(&mut self, page: PageNo, pieces: &[Held])
-        ensures { self.new ≡ without_pieces page.0 pieces.now self.old }
+        ensures files { self.new ≡ without_pieces page.0 pieces.now self.old }
+        ensures agrees { (changes : List Change) → Agrees self.old.pages changes
+            → Agrees self.new.pages changes }
     {
         for held in pieces {
             self.release_piece(page, held.piece);

@@ -1,5 +1,5 @@
 //! The removal of pages.
-ghost use Rattle.std.specs.Prelude.{◌≡◌, ◌+◌, ◌-◌, ◌<◌, ◌≤◌, None, Some, true, false, option_map, set, IfSome};
+ghost use Rattle.std.specs.Prelude.{is_some, length, ◌<◌, ◌≡◌, ◌+◌, ◌-◌, ◌<◌, ◌≤◌, None, Some, true, false, option_map, set, IfSome};
 ghost use Rattle.std.specs.Option.{option_map_or};
 ghost use Rattle.std.specs.List.{position};
 ghost use Rattle.blob_source.specs.Faults.{Rose};
@@ -48,6 +48,27 @@ impl PageFiles {
         }
     }
 
+    // Asks for the removal of a page, where it wasn't asked for before; whether it went.
+    fn ask_once<D: PageDisk>(&mut self, place: usize, disk: &mut D) -> Option<bool>
+        requires closed { D.writing disk.old ≡ None }
+        requires agrees { IfSome (D.changes disk.old) (Agrees self.old.pages) }
+        requires inside { place < length self.old.pages }
+        ensures closed { D.writing disk.new ≡ None }
+        ensures agrees { IfSome (D.changes disk.new) (Agrees self.new.pages) }
+        ensures once { is_some result ≡ is_unasked (page_at self.old.pages place) }
+        ensures files { self.new ≡ asked place self.old }
+        ensures changes { D.changes disk.new ≡ option_map_or
+            (λ goes. with_change (removal place goes) (D.changes disk.old)) result (D.changes disk.old) }
+        ensures left { IfSome result (λ goes. goes ≡ false → Rose (D.faults disk.old) (D.faults disk.new)) }
+        ensures later { D.faults disk.old ≤ D.faults disk.new }
+        ensures meter { D.meter disk.new ≡ D.meter disk.old }
+    {
+        if self.table.is_unasked(place) {
+            return Some(self.ask(place, disk));
+        }
+        None
+    }
+
     /// Asks for the removal of the least page that was written whole and holds no reached piece any
     /// more; whether it went.
     pub fn remove_due<D: PageDisk>(&mut self, disk: &mut D) -> Option<(PageNo, bool)>
@@ -85,13 +106,8 @@ impl PageFiles {
             left: 0,
         };
         for place in 0..self.table.len() {
-            if self.table.is_unasked(place) {
-                if self.ask(place, disk) {
-                    closed.removed += 1;
-                } else {
-                    closed.left += 1;
-                }
-            }
+            let goes = self.ask_once(place, disk);
+            closed.count(goes);
         }
         closed
     }
