@@ -3,6 +3,7 @@ pub mod Charges
 pub mod Closing
 pub mod Items
 pub mod Lists
+pub mod NextPages
 pub mod Pages
 pub mod Places
 pub mod Releasing

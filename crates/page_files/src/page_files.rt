@@ -216,25 +216,27 @@ impl PageFiles {
         self.paging = false;
     }
 
-    // The pieces left in a job, where it is in flight; for a compact job with the page that it moves.
-    pub(crate) fn left_in(&self, job: JobNo) -> Result<(Option<PageNo>, Vec<Held>), JobFault>
-        ensures ok { IfOk result (λ found. (is_in_flight job self.now.job ≡ true)
-            × (found.0 ≡ source_of self.now.job) × (found.1.items ≡ left_of self.now.job)) }
-        ensures no_job { IsErrOf result JobFault.NoJob → is_in_flight job self.now.job ≡ false }
-        ensures memory { IsErrOf result JobFault.NoMemory → is_in_flight job self.now.job ≡ true }
-        ensures apart { IfOk result (λ found. IsDistinct nat_eq (numbers found.1.items)) }
-        ensures long { IfOk result (λ found. AllByRecursion HasBytes found.1.items) }
-        ensures fits { IfOk result (λ found. bytes_of found.1.items < 2 ^ 64) }
+    // Whether this job is in flight.
+    pub(crate) fn is_in_flight(&self, job: JobNo) -> bool
+        ensures { result ≡ is_in_flight job self.now.job }
     {
-        let Some(flight) = &self.job else {
-            return Err(JobFault::NoJob);
-        };
-        if flight.number != job {
-            return Err(JobFault::NoJob);
+        match &self.job {
+            Some(flight) => flight.number == job,
+            None => false,
         }
-        match flight.pieces.list(self.alloc) {
-            Ok(left) => Ok((flight.source, left)),
-            Err(NoMemory) => Err(JobFault::NoMemory),
+    }
+
+    // The pieces left in the job in flight.
+    #[tactic(auto, using(crate::proofs::Pages::apart_none))]
+    pub(crate) fn left(&self) -> Result<Vec<Held>, NoMemory>
+        ensures value { IfOk result (λ left. left.items ≡ left_of self.now.job) }
+        ensures apart { IsDistinct nat_eq (numbers (left_of self.now.job)) }
+        ensures long { AllByRecursion HasBytes (left_of self.now.job) }
+        ensures fits { bytes_of (left_of self.now.job) < 2 ^ 64 }
+    {
+        match &self.job {
+            Some(job) => job.pieces.list(self.alloc),
+            None => Ok(Vec::new(self.alloc)),
         }
     }
 }

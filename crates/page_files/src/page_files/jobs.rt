@@ -2,10 +2,10 @@
 ghost use Rattle.std.specs.Prelude.{◌≡◌, ◌≢◌, ◌-◌, ◌^◌, ◌<◌, ◌≤◌, [], None, Some, true, false, length, map, nat_eq, IfOk, IfSome, IsSomeAnd, MatchResult, OnErr};
 ghost use Rattle.std.specs.List.{sum_by, AllByRecursion, IsDistinct};
 ghost use Rattle.item_shares.specs.Shares.{item_at};
-ghost use Rattle.page_files.specs.Pieces.{named, numbers};
+ghost use Rattle.page_files.specs.Pieces.{bytes_of, named, numbers, HasBytes};
 ghost use Rattle.page_files.specs.Items.{piece_of, IsMemoryIn, IsReservedOf};
 ghost use Rattle.page_files.specs.Files.{source_of, is_in_flight, job_no, left_of, room, turned_off, with_job, Agrees};
-ghost use Rattle.page_files.specs.Ends.{scene, JobEnds, StoreEnds};
+ghost use Rattle.page_files.specs.Ends.{LeftWritten, scene, JobEnds, StoreEnds};
 
 use crate::copies::named;
 use crate::ending::JobEnd;
@@ -73,22 +73,48 @@ impl PageFiles {
         ensures later { D.faults disk.old ≤ D.faults disk.new }
         ensures meter { D.meter disk.new ≡ D.meter disk.old }
     {
-        let (source, left) = match self.left_in(job) {
-            Ok(found) => found,
-            Err(fault) => return Err(fault),
-        };
-        if source.is_some() {
+        if !self.is_in_flight(job) || self.compacting().is_some() {
             return Err(JobFault::NoJob);
         }
+        let Ok(left) = self.left() else {
+            return Err(JobFault::NoMemory);
+        };
         if left.is_empty() {
             self.end_job();
             return Ok(JobEnd::Empty);
         }
-        let Ok(next) = self.next_page(left.as_slice()) else {
+        self.write_left(left.as_slice(), shares, disk)
+    }
+
+    // Writes the pieces of the job in flight.
+    fn write_left<D: PageDisk>(
+        &mut self,
+        left: &[Held],
+        shares: &mut Shares,
+        disk: &mut D,
+    ) -> Result<JobEnd, JobFault>
+        requires closed { D.writing disk.old ≡ None }
+        requires agrees { IfSome (D.changes disk.old) (Agrees self.old.pages) }
+        requires left { left.now ≡ left_of self.old.job }
+        requires some { left.now ≢ [] }
+        requires apart { IsDistinct nat_eq (numbers left.now) }
+        requires long { AllByRecursion HasBytes left.now }
+        requires fits { bytes_of left.now < 2 ^ 64 }
+        requires items { AllByRecursion (IsMemoryIn shares.old) left.now }
+        requires numbers { length self.old.pages < 2 ^ 31 }
+        ensures closed { D.writing disk.new ≡ None }
+        ensures agrees { IfSome (D.changes disk.new) (Agrees self.new.pages) }
+        ensures ends { LeftWritten (scene self.old shares.old (D.changes disk.old) (D.faults disk.old))
+            (scene self.new shares.new (D.changes disk.new) (D.faults disk.new)) result }
+        ensures later { D.faults disk.old ≤ D.faults disk.new }
+        ensures meter { D.meter disk.new ≡ D.meter disk.old }
+    {
+        let _charged = self.charged;
+        let Ok(next) = self.next_page(left) else {
             return Err(JobFault::NoMemory);
         };
         let page = next.page;
-        match write_items(disk, page, next.size, left.as_slice(), shares) {
+        match write_items(disk, page, next.size, left, shares) {
             Ok(()) => {
                 self.end_job();
                 let list = self.keep(next, shares);

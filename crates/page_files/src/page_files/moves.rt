@@ -1,17 +1,17 @@
 //! Compact jobs.
-ghost use Rattle.std.specs.Prelude.{List, ◌≡◌, ◌+◌, ◌-◌, ◌^◌, ◌<◌, ◌≤◌, None, Some, true, length, min, IfOk, IfSome, OnErr};
-ghost use Rattle.std.specs.List.{AllByRecursion};
+ghost use Rattle.std.specs.Prelude.{List, ◌≡◌, ◌≢◌, [], ◌+◌, ◌-◌, ◌^◌, ◌<◌, ◌≤◌, None, Some, true, length, min, IfOk, IfSome, OnErr, nat_eq};
+ghost use Rattle.std.specs.List.{AllByRecursion, IsDistinct};
 ghost use Rattle.page_disk.specs.declared.change.Change.{Change};
 ghost use Rattle.page_disk.specs.Changes.{HasRange};
-ghost use Rattle.page_files.specs.Pieces.{bytes_of, names, numbers};
+ghost use Rattle.page_files.specs.Pieces.{bytes_of, names, numbers, HasBytes};
 ghost use Rattle.page_files.specs.Pages.{pieces_at};
 ghost use Rattle.page_files.specs.Items.{IsPagedIn};
 ghost use Rattle.page_files.specs.Files.{job_no, left_of, source_of, thin, with_job, without_pieces, Agrees};
-ghost use Rattle.page_files.specs.Ends.{scene, MoveEnds};
+ghost use Rattle.page_files.specs.Ends.{LeftMoved, scene, MoveEnds};
 
 use crate::copies::{names, zeros};
 use crate::ending::MoveEnd;
-use crate::fault::{JobFault, MoveFault, NoJob};
+use crate::fault::MoveFault;
 use crate::held::Held;
 use crate::page_files::PageFiles;
 use crate::read::read_pieces;
@@ -64,13 +64,14 @@ impl PageFiles {
         ensures read { IfOk result (λ _. min (D.meter disk.new) (2 ^ 64 - 1)
             ≡ min (D.meter disk.old + bytes_of (left_of self.old.job)) (2 ^ 64 - 1)) }
     {
-        let (source, left) = match self.left_in(job) {
-            Ok(found) => found,
-            Err(JobFault::NoMemory) => return Err(MoveFault::NoMemory),
-            Err(_) => return Err(MoveFault::NoJob),
-        };
-        let Some(source) = source else {
+        let Some(source) = self.compacting() else {
             return Err(MoveFault::NoJob);
+        };
+        if !self.is_in_flight(job) {
+            return Err(MoveFault::NoJob);
+        }
+        let Ok(left) = self.left() else {
+            return Err(MoveFault::NoMemory);
         };
         if left.is_empty() {
             self.end_job();
@@ -86,7 +87,28 @@ impl PageFiles {
         left: &[Held],
         shares: &mut Shares,
         disk: &mut D,
-    ) -> Result<MoveEnd, MoveFault> {
+    ) -> Result<MoveEnd, MoveFault>
+        requires closed { D.writing disk.old ≡ None }
+        requires agrees { IfSome (D.changes disk.old) (Agrees self.old.pages) }
+        requires left { left.now ≡ left_of self.old.job }
+        requires some { left.now ≢ [] }
+        requires apart { IsDistinct nat_eq (numbers left.now) }
+        requires long { AllByRecursion HasBytes left.now }
+        requires fits { bytes_of left.now < 2 ^ 64 }
+        requires items { AllByRecursion (IsPagedIn source shares.old) left.now }
+        requires there { IfSome (D.changes disk.old) (λ changes.
+            AllByRecursion (λ held. HasRange source.0 held.off held.len changes) left.now) }
+        requires numbers { length self.old.pages < 2 ^ 31 }
+        ensures closed { D.writing disk.new ≡ None }
+        ensures agrees { IfSome (D.changes disk.new) (Agrees self.new.pages) }
+        ensures ends { LeftMoved source (scene self.old shares.old (D.changes disk.old) (D.faults disk.old))
+            (scene self.new shares.new (D.changes disk.new) (D.faults disk.new)) result }
+        ensures later { D.faults disk.old ≤ D.faults disk.new }
+        ensures meter { min (D.meter disk.old) (2 ^ 64 - 1) ≤ D.meter disk.new }
+        ensures read { IfOk result (λ _. min (D.meter disk.new) (2 ^ 64 - 1)
+            ≡ min (D.meter disk.old + bytes_of left.now) (2 ^ 64 - 1)) }
+    {
+        let _charged = self.charged;
         let Ok(next) = self.next_page(left) else {
             return Err(MoveFault::NoMemory);
         };
