@@ -1,5 +1,5 @@
 -- What holds where pieces are written to the next page.
-use Rattle.std.proofs.Common.{◌≡◌, ◌≢◌, ℕ, ◌+◌, ◌-◌, ◌<◌, ◌≤◌, List, [], ◌∷◌, ◌++◌, Some, None, Option, length, set, refl, sym, ap, ◌∙◌, arith, subst}
+use Rattle.std.proofs.Common.{◌≡◌, ◌≢◌, ℕ, ◌+◌, ◌-◌, ◌<◌, ◌≤◌, is_none, List, [], ◌∷◌, ◌++◌, Some, None, Option, length, set, refl, sym, ap, ◌∙◌, arith, subst}
 use Rattle.std.specs.Prelude.{IfSome, IsSomeAnd}
 use Rattle.std.specs.List.{AllByRecursion}
 use Rattle.std.proofs.Math.Seq.{set-append_seam}
@@ -21,6 +21,7 @@ use Rattle.page_files.specs.Pieces.{bytes_of, placed, HasBytes}
 use Rattle.page_files.specs.Pages.{charge_of, page_charge}
 use Rattle.page_files.specs.Items.{turned, IsMemoryIn, IsMemoryOf, IsPagedIn, IsPagedOf, IsPieceIn}
 use Rattle.page_files.specs.Files.{Files, charge, left_of, page_no, room, with_page, without_job, Agrees}
+use Rattle.page_files.specs.Writes.{read_of}
 use Rattle.page_files.specs.Ends.{IsNextPage}
 use Rattle.page_files.proofs.Agreement.{told_new, told_put, told_torn}
 use Rattle.page_files.proofs.Lists.{all_then, bytes_cons, placed_bytes}
@@ -112,3 +113,17 @@ torn_agrees told new pages after page at change is so = rw (change, is, at) (tol
 pub next_turned : (page : PageNo) (pieces left : List Held) (next : NextPage) (old new : List (Option Share)) → IsNextPage page pieces next → pieces ≡ left → ((slot : ℕ) → share_at new slot ≡ turned next.page next.pieces.items slot (share_at old slot))
     → (slot : ℕ) → share_at new slot ≡ turned page (placed 0 left) slot (share_at old slot)
 next_turned page pieces left next old new is same items slot = rw (← same, ← is.page, ← is.pieces) (items slot)
+
+-- what was read is what was put
+pub moved_change : (told mid new : Option (List Change)) (page source : PageNo) (buffer : List ℕ) (left : List Held) → mid ≡ told → new ≡ with_change (Put page buffer) mid → IfSome told (λ changes. buffer ≡ read_of source changes left)
+    → IfSome told (λ changes. new ≡ with_change (Put page (read_of source changes left)) told)
+moved_change None mid new page source buffer left same change read = tt
+moved_change (Some changes) mid new page source buffer left same change read = change ∙ ap (with_change (Put page buffer)) same ∙ ap (λ (bytes : List ℕ). with_change (Put page bytes) (Some changes)) read
+
+pub tells_on : (told mid new : Option (List Change)) (change : Change) → mid ≡ told → new ≡ with_change change mid → is_none told ≡ is_none new
+tells_on None mid new change same is = rw (is, same) refl
+tells_on (Some changes) mid new change same is = rw (is, same) refl
+
+pub agrees_then : (told : Option (List Change)) (pages after : List Page) → ((changes : List Change) → Agrees pages changes → Agrees after changes) → IfSome told (Agrees pages) → IfSome told (Agrees after)
+agrees_then None pages after then so = tt
+agrees_then (Some changes) pages after then so = then changes so

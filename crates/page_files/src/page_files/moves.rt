@@ -9,12 +9,12 @@ ghost use Rattle.page_files.specs.Items.{IsPagedIn};
 ghost use Rattle.page_files.specs.Files.{job_no, left_of, source_of, thin, with_job, without_pieces, Agrees};
 ghost use Rattle.page_files.specs.Ends.{LeftMoved, scene, MoveEnds};
 
-use crate::copies::{names, zeros};
+use crate::copies::names;
 use crate::ending::MoveEnd;
 use crate::fault::MoveFault;
 use crate::held::Held;
 use crate::page_files::PageFiles;
-use crate::read::read_pieces;
+use crate::read::{read_all, ReadFault};
 use crate::write::write_bytes;
 use blob_words::{JobNo, NoMemory, PageNo, PieceList};
 use item_shares::Shares;
@@ -113,15 +113,18 @@ impl PageFiles {
             return Err(MoveFault::NoMemory);
         };
         let page = next.page;
-        let Ok(mut buffer) = zeros(self.alloc, next.size as usize) else {
-            self.give_back();
-            return Err(MoveFault::NoMemory);
+        let buffer = match read_all(self.alloc, disk, source, left, next.size) {
+            Ok(buffer) => buffer,
+            Err(ReadFault::Unread) => {
+                self.give_back();
+                self.fail_job();
+                return Err(MoveFault::Unread(source));
+            }
+            Err(ReadFault::NoMemory) => {
+                self.give_back();
+                return Err(MoveFault::NoMemory);
+            }
         };
-        if read_pieces(disk, source, left, buffer.as_mut_slice()).is_err() {
-            self.give_back();
-            self.fail_job();
-            return Err(MoveFault::Unread(source));
-        }
         match write_bytes(disk, page, buffer.as_slice()) {
             Ok(()) => {
                 self.end_job();
