@@ -1,7 +1,7 @@
 -- What holds where pieces are written to the next page.
-use Rattle.std.proofs.Common.{◌≡◌, ◌≢◌, ℕ, ◌+◌, ◌-◌, ◌<◌, ◌≤◌, is_none, List, [], ◌∷◌, ◌++◌, Some, None, Option, length, set, refl, sym, ap, ◌∙◌, arith, subst}
+use Rattle.std.proofs.Common.{◌≡◌, ◌≢◌, ℕ, ◌+◌, ◌-◌, ◌<◌, ◌≤◌, is_none, nat_eq, List, [], ◌∷◌, ◌++◌, Some, None, Option, length, set, refl, sym, ap, ◌∙◌, arith, subst}
 use Rattle.std.specs.Prelude.{IfSome, IsSomeAnd}
-use Rattle.std.specs.List.{AllByRecursion}
+use Rattle.std.specs.List.{AllByRecursion, IsDistinct}
 use Rattle.std.proofs.Math.Seq.{set-append_seam}
 use Rattle.std.proofs.lemmas.List.Sums.{sum_by-append}
 use Rattle.blob_words.specs.declared.number.PageNo.{PageNo}
@@ -20,7 +20,7 @@ use Rattle.page_files.specs.declared.next_page.NextPage.{NextPage}
 use Rattle.page_files.specs.Pieces.{bytes_of, placed, HasBytes}
 use Rattle.page_files.specs.Pages.{charge_of, page_charge}
 use Rattle.page_files.specs.Items.{turned, IsMemoryIn, IsMemoryOf, IsPagedIn, IsPagedOf, IsPieceIn}
-use Rattle.page_files.specs.Files.{Files, charge, left_of, page_no, room, with_page, without_job, Agrees}
+use Rattle.page_files.specs.Files.{Files, alone, charge, left_of, page_no, room, unreserved, with_page, without_job, Agrees}
 use Rattle.page_files.specs.Writes.{read_of}
 use Rattle.page_files.specs.Ends.{IsNextPage}
 use Rattle.page_files.proofs.Agreement.{told_new, told_put, told_torn}
@@ -127,3 +127,19 @@ tells_on (Some changes) mid new change same is = rw (is, same) refl
 pub agrees_then : (told : Option (List Change)) (pages after : List Page) → ((changes : List Change) → Agrees pages changes → Agrees after changes) → IfSome told (Agrees pages) → IfSome told (Agrees after)
 agrees_then None pages after then so = tt
 agrees_then (Some changes) pages after then so = then changes so
+
+-- one piece is apart
+pub one_apart : (number : ℕ) → IsDistinct nat_eq (number ∷ [])
+unfolding IsDistinct
+one_apart number = (tt, tt)
+
+-- a reserved piece has room once it is reserved no more
+pub reserved_room : (files : Files) (held : Held) (next : NextPage) (page : PageNo) → IsNextPage page (held ∷ []) next → charge files ≤ files.limit → held.len ≤ files.reserved → next.size ≤ room (unreserved held.len (with_page Torn files))
+reserved_room files held next page is within less = rw is.size (let same = torn_charge files.pages in omega (arith, within, same, less))
+
+-- the files once a reserved piece was kept
+pub stored_by : (files opened free kept : Files) (held : Held) (next : NextPage) → IsNextPage (page_no (length files.pages)) (held ∷ []) next → opened ≡ with_page Torn files → free ≡ unreserved held.len opened → kept ≡ record free { pages = set free.pages next.page.0 (Whole next.size next.table) }
+    → kept ≡ with_page (Whole held.len (alone held.piece held.slot held.len ∷ [])) (unreserved held.len files)
+stored_by files opened free kept held next is one two three =
+    let size : next.size ≡ held.len = is.size ∙ (let none : 0 + held.len ≡ held.len = omega arith in none) in
+    rw (three, two, one, is.page, size, is.table) (ap (λ (pages : List Page). record (unreserved held.len files) { pages = pages }) (set-append_seam files.pages Torn [] (Whole held.len (alone held.piece held.slot held.len ∷ []))))

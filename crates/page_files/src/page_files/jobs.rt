@@ -3,7 +3,7 @@ ghost use Rattle.std.specs.Prelude.{◌≡◌, ◌≢◌, ◌-◌, ◌^◌, ◌<
 ghost use Rattle.std.specs.List.{sum_by, AllByRecursion, IsDistinct};
 ghost use Rattle.item_shares.specs.Shares.{item_at};
 ghost use Rattle.page_files.specs.Pieces.{bytes_of, named, numbers, HasBytes};
-ghost use Rattle.page_files.specs.Items.{piece_of, IsMemoryIn, IsReservedOf};
+ghost use Rattle.page_files.specs.Items.{IsPieceIn, piece_of, IsMemoryIn, IsReservedOf};
 ghost use Rattle.page_files.specs.Files.{source_of, is_in_flight, job_no, left_of, room, turned_off, with_job, Agrees};
 ghost use Rattle.page_files.specs.Ends.{LeftWritten, scene, JobEnds, StoreEnds};
 
@@ -162,6 +162,33 @@ impl PageFiles {
             off: 0,
             len: *len,
         };
+        self.store_held(held, bytes, shares, disk)
+    }
+
+    // Writes the bytes of a reserved piece to the next page.
+    fn store_held<D: PageDisk>(
+        &mut self,
+        held: Held,
+        bytes: &[u8],
+        shares: &mut Shares,
+        disk: &mut D,
+    ) -> Result<PageNo, StoreFault>
+        requires closed { D.writing disk.old ≡ None }
+        requires agrees { IfSome (D.changes disk.old) (Agrees self.old.pages) }
+        requires item { IsPieceIn shares.old held }
+        requires some { 0 < length bytes.now }
+        requires len { held.len ≡ length bytes.now }
+        requires reserved { length bytes.now ≤ self.old.reserved }
+        requires numbers { length self.old.pages < 2 ^ 31 }
+        ensures closed { D.writing disk.new ≡ None }
+        ensures agrees { IfSome (D.changes disk.new) (Agrees self.new.pages) }
+        ensures ends { StoreEnds held.piece held.slot bytes.now
+            (scene self.old shares.old (D.changes disk.old) (D.faults disk.old))
+            (scene self.new shares.new (D.changes disk.new) (D.faults disk.new)) result }
+        ensures later { D.faults disk.old ≤ D.faults disk.new }
+        ensures meter { D.meter disk.new ≡ D.meter disk.old }
+    {
+        let _charged = self.charged;
         let Ok(next) = self.next_page(&[held]) else {
             return Err(StoreFault::NoMemory);
         };
