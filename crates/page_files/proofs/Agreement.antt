@@ -1,12 +1,11 @@
 -- The pages not asked for, and what a disk tells of them.
-use Rattle.std.proofs.Common.{◌≡◌, ◌≢◌, ℕ, ◌<◌, ◌≤◌, ◌+◌, ◌==◌, ◌&&◌, ◌||◌, Bool, true, false, not, List, [], ◌∷◌, ◌++◌, zero, suc, Some, None, Option, get_or, length, set, refl, sym, ap, ◌∙◌, arith, subst, inl, inr, ◌⊎◌}
+use Rattle.std.proofs.Common.{◌≡◌, ◌≢◌, ℕ, ◌<◌, ◌≤◌, ◌==◌, ◌&&◌, ◌||◌, Bool, true, false, not, List, [], ◌∷◌, ◌++◌, zero, suc, Some, None, Option, length, set, refl, sym, ap, ◌∙◌, arith, inl, inr, ◌⊎◌}
 use Rattle.std.specs.Prelude.{IfSome}
 use Rattle.std.specs.List.{list_any}
 use Rattle.std.proofs.lemmas.Bool.{eqb-true, eqb-false, ne_eqb, cases_lt}
 use Rattle.std.proofs.lemmas.List.{get_or-set_other, get_or-set_same, length-append, length-set}
 use Rattle.std.proofs.Math.Seq.{set_out}
 use Rattle.std.proofs.lemmas.List.Folds.{list_any-append}
-use Rattle.blob_words.specs.declared.number.PageNo.{PageNo}
 use Rattle.blob_words.specs.declared.number.PieceNo.{PieceNo}
 use Rattle.page_disk.specs.declared.change.Change.{Change}
 use Rattle.page_disk.specs.declared.change.Change.TheVariants.{Put, Torn, Remove, Left}
@@ -167,6 +166,7 @@ released_page number piece pages other true is = by (cases_lt number (length pag
   where
     same : other ≡ number
     same = eqb-true other number is
+
     by : (number < length pages) ⊎ (length pages ≤ number) → is_unasked (page_at (released_at number piece pages) other) ≡ is_unasked (page_at pages other)
     by (inl inside) = rw same (ap is_unasked (get_or-set_same pages number (released piece (page_at pages number)) Asked inside) ∙ released_unasked piece (page_at pages number))
     by (inr past) = rw (set_out pages number (released piece (page_at pages number)) past) refl

@@ -1,16 +1,15 @@
 -- What is charged, and what room is left.
-use Rattle.std.proofs.Common.{◌≡◌, ◌≢◌, ℕ, ◌+◌, ◌-◌, ◌*◌, ◌<◌, ◌≤◌, ◌&&◌, Bool, true, false, List, [], ◌∷◌, Some, None, Option, get_or, length, nat_le, refl, sym, ap, ◌∙◌, arith, subst}
+use Rattle.std.proofs.Common.{◌≡◌, ℕ, ◌≤◌, true, List, Some, None, Option, nat_le, refl, sym, ap, ◌∙◌}
 use Rattle.std.specs.Option.{option_map}
 use Rattle.std.specs.List.{position}
 use Rattle.std.proofs.lemmas.Bool.{and_parts, leb-true}
 use Rattle.std.proofs.lemmas.List.Quantifiers.{position-Some}
 use Rattle.blob_words.specs.declared.number.PageNo.{PageNo}
-use Rattle.page_files.specs.declared.held.Held.{Held}
 use Rattle.page_files.specs.declared.page.Page.{Page}
 use Rattle.page_files.specs.declared.page.Page.TheVariants.{Torn, Whole, Asked}
 use Rattle.page_files.specs.Pieces.{bytes_of}
-use Rattle.page_files.specs.Pages.{can_move, is_due, is_thin, is_unasked, page_at, pieces_at, pieces_of}
-use Rattle.page_files.specs.Files.{Files, charge, page_no, room, thin}
+use Rattle.page_files.specs.Pages.{can_move, is_due, is_thin, is_unasked, page_at, pieces_at}
+use Rattle.page_files.specs.Files.{Files, page_no, room, thin}
 
 -- the least thin page, found by the room that is left
 pub thin_found : (files : Files) (free : ℕ) (found result : Option ℕ) → found ≡ position (can_move free) files.pages → free ≡ room files → found ≡ result → option_map page_no result ≡ thin files

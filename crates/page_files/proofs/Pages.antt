@@ -1,5 +1,5 @@
 -- Pages by their keys.
-use Rattle.std.proofs.Common.{◌≡◌, ℕ, ◌+◌, ◌*◌, ◌-◌, ◌^◌, ◌<◌, ◌≤◌, ◌&&◌, Bool, true, false, cond, not, List, [], ◌∷◌, ◌++◌, zero, suc, Some, None, Option, length, map, min, nat_eq, nat_le, nat_lt, get_or, set, subst, take, refl, sym, ap, ◌∙◌, arith}
+use Rattle.std.proofs.Common.{◌≡◌, ℕ, ◌*◌, ◌-◌, ◌^◌, ◌<◌, ◌&&◌, Bool, true, false, cond, not, List, [], ◌∷◌, ◌++◌, zero, suc, length, map, min, nat_eq, nat_le, nat_lt, get_or, set, subst, take, refl, sym, arith}
 use Rattle.std.specs.List.{AllByRecursion, IsDistinct, position, prefix_len}
 use Rattle.std.proofs.lemmas.Bool.{ltb-true}
 use Rattle.std.proofs.lemmas.Bool.Decides.{nat_tests}
@@ -9,7 +9,7 @@ use Rattle.page_files.specs.declared.page.Page.{Page}
 use Rattle.page_files.specs.declared.page.Page.TheVariants.{Torn, Whole, Asked}
 use Rattle.page_files.specs.declared.held.Held.{Held}
 use Rattle.page_files.specs.Pieces.{bytes_of, numbers}
-use Rattle.page_files.specs.Pages.{can_move, is_due, is_held, is_thin, page_at, pieces_of, released, size_of}
+use Rattle.page_files.specs.Pages.{can_move, is_due, is_held, pieces_of, released, size_of}
 use Rattle.page_files.specs.Keys.{due_key, thin_key, HasSize}
 use Rattle.page_files.proofs.Lists.{all_at, all_then}
 

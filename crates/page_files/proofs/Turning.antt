@@ -8,7 +8,7 @@ use Rattle.blob_words.specs.declared.number.PageNo.{PageNo}
 use Rattle.item_shares.specs.declared.item.Item.{Item}
 use Rattle.item_shares.specs.declared.item.Item.TheVariants.{Memory, Paged, Reserved, File, Range}
 use Rattle.item_shares.specs.declared.shares.Share.{Share}
-use Rattle.item_shares.specs.Shares.{Changes, HoldsPiece, item_at, paged_item, share_at, share_of}
+use Rattle.item_shares.specs.Shares.{Changes, HoldsPiece, paged_item, share_at, share_of}
 use Rattle.page_files.specs.declared.held.Held.{Held}
 use Rattle.page_files.specs.Items.{paged_share, turned, IsPieceIn}
 use Rattle.page_files.proofs.Lists.{all_then}

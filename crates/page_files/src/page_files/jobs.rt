@@ -26,7 +26,6 @@ impl PageFiles {
         requires paging { self.old.paging ≡ true }
         requires some { pieces.now ≢ [] }
         requires apart { IsDistinct nat_eq (map (λ piece. piece.0.0) pieces.now) }
-        requires slots { IsDistinct nat_eq (map (λ piece. piece.1) pieces.now) }
         requires long { AllByRecursion (λ piece. 0 < piece.2) pieces.now }
         requires room { sum_by (λ piece. piece.2) pieces.now ≤ room self.old }
         requires numbers { self.old.jobs < 2 ^ 31 }

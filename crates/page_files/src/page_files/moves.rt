@@ -14,7 +14,7 @@ use crate::ending::MoveEnd;
 use crate::fault::MoveFault;
 use crate::held::Held;
 use crate::page_files::PageFiles;
-use crate::read::{read_all, ReadFault};
+use crate::read::{ReadFault, read_all};
 use crate::write::write_bytes;
 use blob_words::{JobNo, NoMemory, PageNo, PieceList};
 use item_shares::Shares;

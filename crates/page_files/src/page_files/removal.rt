@@ -1,5 +1,5 @@
 //! The removal of pages.
-ghost use Rattle.std.specs.Prelude.{is_some, length, ◌<◌, ◌≡◌, ◌+◌, ◌-◌, ◌<◌, ◌≤◌, None, Some, true, false, option_map, set, IfSome};
+ghost use Rattle.std.specs.Prelude.{IfNone, is_some, length, ◌<◌, ◌≡◌, ◌+◌, ◌-◌, ◌<◌, ◌≤◌, None, Some, true, false, option_map, set, IfSome};
 ghost use Rattle.std.specs.Option.{option_map_or};
 ghost use Rattle.std.specs.List.{position};
 ghost use Rattle.blob_source.specs.Faults.{Rose};
@@ -80,6 +80,7 @@ impl PageFiles {
         ensures files { self.new ≡ option_map_or (λ gone. asked gone.0.0 self.old) result self.old }
         ensures changes { D.changes disk.new ≡ option_map_or
             (λ gone. with_change (removal gone.0.0 gone.1) (D.changes disk.old)) result (D.changes disk.old) }
+        ensures none { IfNone result (D.faults disk.new ≡ D.faults disk.old) }
         ensures left { IfSome result (λ gone. gone.1 ≡ false → Rose (D.faults disk.old) (D.faults disk.new)) }
         ensures later { D.faults disk.old ≤ D.faults disk.new }
         ensures meter { D.meter disk.new ≡ D.meter disk.old }

@@ -1,6 +1,5 @@
 -- Each piece goes behind those before it.
-use Rattle.std.proofs.Common.{◌≡◌, ◌+◌, ◌<◌, arith, slice_index_or, length, take, refl}
-use Rattle.page_files.specs.Pieces.{bytes_of, placed}
+use Rattle.std.proofs.Common.{◌<◌, arith, length, refl}
 use Rattle.page_files.specs.declared.held.Held.{Held}
 use Rattle.page_files.proofs.Lists.{bytes_more, placed_more}
 use Rattle.page_files.proofs.copies.placed.Goals as goal

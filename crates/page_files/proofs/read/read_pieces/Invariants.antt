@@ -1,4 +1,4 @@
-use Rattle.std.proofs.Common.{◌≡◌, ◌≤◌, ◌+◌, ◌-◌, ◌^◌, ◌++◌, None, length, take, drop, min}
+use Rattle.std.proofs.Common.{◌≡◌, ◌≤◌, ◌+◌, ◌-◌, ◌^◌, None, length, take, min}
 use Rattle.std.specs.Prelude.{IfSome}
 use Rattle.page_files.specs.Pieces.{bytes_of}
 use Rattle.page_files.specs.Writes.{read_of}

@@ -1,5 +1,5 @@
 -- One slot more has turned.
-use Rattle.std.proofs.Common.{◌≡◌, ◌+◌, ◌<◌, ℕ, List, arith, slice_index_or, length, take, sym, ap, ◌∙◌}
+use Rattle.std.proofs.Common.{◌<◌, List, arith, slice_index_or, length, take, sym, ap, ◌∙◌}
 use Rattle.std.proofs.lemmas.List.{take_more}
 use Rattle.item_shares.specs.Shares.{share_at}
 use Rattle.page_files.specs.declared.held.Held.{Held}

@@ -1,4 +1,4 @@
-use Rattle.std.proofs.Common.{◌≡◌, ℕ, take, drop}
+use Rattle.std.proofs.Common.{◌≡◌, ℕ, take}
 use Rattle.std.specs.List.{AllByRecursion}
 use Rattle.item_shares.specs.Shares.{share_at}
 use Rattle.page_files.specs.Items.{turned, IsPieceIn}

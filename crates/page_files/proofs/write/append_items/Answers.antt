@@ -1,13 +1,13 @@
 -- The bytes of one piece more were appended.
-use Rattle.std.proofs.Common.{rules, ◌≡◌, ◌+◌, ◌<◌, ◌≤◌, Some, arith, slice_index_or, length, take, sym, ◌∙◌}
+use Rattle.std.proofs.Common.{rules, ◌≡◌, ◌+◌, ◌<◌, ◌≤◌, Some, arith, slice_index_or, length, take}
 use Rattle.item_shares.specs.declared.item.Item.TheVariants.{Memory}
 use Rattle.item_shares.specs.Shares.{item_at}
 use Rattle.page_files.specs.declared.held.Held.{Held}
 use Rattle.page_files.specs.Pieces.{bytes_of}
 use Rattle.page_files.specs.Items.{IsMemoryIn}
-use Rattle.page_files.proofs.Items.{bytes_at, in_more, length_at}
+use Rattle.page_files.proofs.Items.{length_at}
 use Rattle.page_files.proofs.Lists.{all_at, bytes_more, bytes_within}
-use Rattle.page_files.proofs.Writing.{added_more, room_for}
+use Rattle.page_files.proofs.Writing.{room_for}
 use Rattle.page_files.proofs.write.append_items.Goals as goal
 
 pub append_all-requires : goal.append_all-requires

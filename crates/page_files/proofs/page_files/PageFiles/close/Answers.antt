@@ -1,5 +1,5 @@
 -- One page more was asked for, where it wasn't before.
-use Rattle.std.proofs.Common.{◌≡◌, ◌<◌, ◌≤◌, ◌^◌, ◌++◌, List, arith, drop, length, take, refl, ap, ◌∙◌}
+use Rattle.std.proofs.Common.{◌<◌, ◌≤◌, ◌^◌, ◌++◌, List, arith, drop, length, take, refl, ap, ◌∙◌}
 use Rattle.std.proofs.lemmas.List.{length-take-le}
 use Rattle.page_files.specs.declared.page.Page.{Page}
 use Rattle.page_files.specs.Files.{all_asked, asked}

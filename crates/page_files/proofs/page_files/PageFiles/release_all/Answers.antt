@@ -1,5 +1,5 @@
 -- One piece more was released.
-use Rattle.std.proofs.Common.{◌≡◌, ◌<◌, arith, get_or, length, sym, ap, ◌∙◌}
+use Rattle.std.proofs.Common.{◌<◌, arith, get_or, length, sym, ap, ◌∙◌}
 use Rattle.page_files.specs.declared.held.Held.{Held}
 use Rattle.page_files.specs.Pages.{released_at}
 use Rattle.page_files.specs.Files.{Files}

@@ -1,6 +1,5 @@
 -- The first key that is small enough is that of the first page that can move.
-use Rattle.std.proofs.Common.{◌≡◌, ℕ, ◌-◌, ◌^◌, List, min, nat_le, ap, ◌∙◌}
-use Rattle.std.specs.List.{position}
+use Rattle.std.proofs.Common.{ℕ, ◌-◌, ◌^◌, min, nat_le, ◌∙◌}
 use Rattle.page_files.specs.Pages.{can_move}
 use Rattle.page_files.specs.Keys.{thin_key}
 use Rattle.page_files.proofs.Pages.{position_same, thin_keys}

@@ -1,5 +1,5 @@
 -- The keys are those of the pages.
-use Rattle.std.proofs.Common.{ap, ◌∙◌, sym, set}
+use Rattle.std.proofs.Common.{sym}
 use Rattle.std.proofs.lemmas.List.{map-set}
 use Rattle.page_files.specs.Keys.{due_key, thin_key, HasSize}
 use Rattle.page_files.proofs.Pages.{all_set}

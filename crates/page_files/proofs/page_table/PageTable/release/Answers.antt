@@ -1,7 +1,6 @@
 -- The keys are those of the pages.
 use Rattle.std.proofs.Common.{sym}
 use Rattle.std.proofs.lemmas.List.{map-set}
-use Rattle.page_files.specs.Pages.{size_of}
 use Rattle.page_files.specs.Keys.{due_key, thin_key, HasSize}
 use Rattle.page_files.proofs.Pages.{all_set, size_after}
 use Rattle.page_files.proofs.page_table.PageTable.release.Goals as goal
