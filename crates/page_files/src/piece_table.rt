@@ -95,13 +95,13 @@ impl PieceTable {
     {
         let _bytes = self.bytes;
         let mut list = Vec::new(alloc);
-        for (piece, place) in self.places.iter() {
-            if place.is_in {
+        for (piece, entry) in self.places.iter() {
+            if entry.is_in {
                 list.push(Held {
                     piece: PieceNo(*piece),
-                    slot: place.slot,
-                    off: place.off,
-                    len: place.len,
+                    slot: entry.slot,
+                    off: entry.off,
+                    len: entry.len,
                 })?;
             }
         }
