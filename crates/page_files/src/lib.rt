@@ -7,7 +7,7 @@ pub mod ending;
 pub mod fault;
 pub mod held;
 pub mod job;
-pub mod next_page;
+mod next_page;
 pub mod page;
 pub mod page_files;
 mod page_table;
