@@ -22,7 +22,7 @@ use Rattle.page_files.specs.Pages.{charge_of, page_charge}
 use Rattle.page_files.specs.Items.{turned, IsMemoryIn, IsMemoryOf, IsPagedIn, IsPagedOf, IsPieceIn}
 use Rattle.page_files.specs.Files.{Files, alone, charge, left_of, page_no, room, unreserved, with_page, without_job, Agrees}
 use Rattle.page_files.specs.Writes.{read_of}
-use Rattle.page_files.specs.Ends.{IsNextPage}
+use Rattle.page_files.specs.Prepared.{IsNextPage}
 use Rattle.page_files.proofs.Agreement.{told_new, told_put, told_torn}
 use Rattle.page_files.proofs.Lists.{all_then, bytes_cons, placed_bytes}
 

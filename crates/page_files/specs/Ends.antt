@@ -20,7 +20,6 @@ use Rattle.page_files.specs.declared.fault.MoveFault.TheVariants as move_faults
 use Rattle.page_files.specs.declared.fault.StoreFault.{StoreFault}
 use Rattle.page_files.specs.declared.fault.StoreFault.TheVariants as store_faults
 use Rattle.page_files.specs.declared.held.Held.{Held}
-use Rattle.page_files.specs.declared.next_page.NextPage.{NextPage}
 use Rattle.page_files.specs.declared.page.Page.TheVariants.{Torn, Whole}
 use Rattle.page_files.specs.Pieces.{bytes_of, names, placed}
 use Rattle.page_files.specs.Items.{bytes_in, turned}
@@ -34,16 +33,9 @@ pub record Scene : Type 0 where
   pub changes : Option (List Change)
   pub faults : ℕ
 
+-- a scene from its parts
 abbrev pub scene : Files → List (Option Share) → Option (List Change) → ℕ → Scene
 scene files shares changes faults = record { files = files; shares = shares; changes = changes; faults = faults }
-
--- what is prepared for the write of pieces to the next page
-pub record IsNextPage (number : PageNo) (held : List Held) (next : NextPage) : Type 0 where
-  pub page : next.page ≡ number
-  pub size : next.size ≡ bytes_of held
-  pub pieces : next.pieces.items ≡ placed 0 held
-  pub table : next.table ≡ placed 0 held
-  pub list : next.list ≡ names held
 
 -- the number of the next page
 abbrev pub next_page : Scene → PageNo

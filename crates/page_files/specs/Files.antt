@@ -29,6 +29,7 @@ pub record Files : Type 0 where
 abbrev pub new_files : ℕ → Files
 new_files limit = record { limit = limit; pages = []; reserved = 0; job = None; paging = true; jobs = 0 }
 
+-- a page and a job by their bare numbers
 abbrev pub page_no : ℕ → PageNo
 page_no number = record { 0 = number }
 
@@ -44,6 +45,7 @@ left_of (Some job) = job.pieces
 abbrev pub charge_by : List Page → ℕ → Option Job → ℕ
 charge_by pages reserved job = page_charge pages + reserved + bytes_of (left_of job)
 
+-- the same of page files
 abbrev pub charge : Files → ℕ
 charge files = charge_by files.pages files.reserved files.job
 
@@ -105,7 +107,7 @@ with_page page files = record files { pages = files.pages ++ page ∷ [] }
 abbrev pub without_job : Files → Files
 without_job files = record files { job = None }
 
--- and paging is off from now on
+-- the job in flight has failed: it has ended, and paging is off from now on
 abbrev pub turned_off : Files → Files
 turned_off files = record files { job = None; paging = false }
 
@@ -131,6 +133,7 @@ unasked_from number (page ∷ pages) = if is_unasked page then number ∷ unaske
 abbrev pub removal : ℕ → Bool → Change
 removal page goes = if goes then Remove (page_no page) else Left (page_no page)
 
+-- the removals of pages, one after the other
 abbrev pub removals : List ℕ → List Bool → List Change
 removals [] goes = []
 removals (page ∷ pages) [] = []

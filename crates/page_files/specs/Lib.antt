@@ -1,5 +1,6 @@
 pub mod Pieces
 pub mod Pages
+pub mod Prepared
 pub mod Places
 pub mod Keys
 pub mod Items

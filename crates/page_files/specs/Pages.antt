@@ -19,6 +19,7 @@ size_of Torn = 0
 size_of (Whole size pieces) = size
 size_of Asked = 0
 
+-- whether there is a piece
 abbrev pub is_some_piece : List Held → Bool
 is_some_piece [] = false
 is_some_piece (held ∷ pieces) = true
@@ -65,6 +66,7 @@ released piece Torn = Torn
 released piece (Whole size pieces) = Whole size (without piece pieces)
 released piece Asked = Asked
 
+-- a piece of the page of a number is reached no more
 abbrev pub released_at : ℕ → PieceNo → List Page → List Page
 released_at number piece pages = set pages number (released piece (page_at pages number))
 

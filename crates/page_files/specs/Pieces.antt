@@ -8,10 +8,11 @@ use Rattle.page_files.specs.declared.held.Held.{Held}
 abbrev pub bytes_of : List Held → ℕ
 bytes_of pieces = sum_by (λ held. held.len) pieces
 
--- the pieces by their names and by their bare numbers
+-- the numbers of pieces, as an answer lists them
 abbrev pub names : List Held → List PieceNo
 names pieces = map (λ held. held.piece) pieces
 
+-- the bare numbers of pieces
 abbrev pub numbers : List Held → List ℕ
 numbers pieces = map (λ held. held.piece.0) pieces
 

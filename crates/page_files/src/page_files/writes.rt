@@ -7,7 +7,7 @@ ghost use Rattle.page_files.specs.Pieces.{bytes_of, names, numbers, HasBytes};
 ghost use Rattle.page_files.specs.Pages.{page_at};
 ghost use Rattle.page_files.specs.Items.{turned, IsPieceIn};
 ghost use Rattle.page_files.specs.Files.{page_no, room, with_page};
-ghost use Rattle.page_files.specs.Ends.{IsNextPage};
+ghost use Rattle.page_files.specs.Prepared.{IsNextPage};
 
 use crate::copies::{names, placed};
 use crate::held::Held;
