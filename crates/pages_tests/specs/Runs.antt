@@ -24,16 +24,16 @@ IsThere len told (Ok job_ends.Empty) = Unit {0}
 IsThere len told (Err fault) = Unit {0}
 
 -- the pieces of the least thin page may be moved: their items are in it, and the disk has their bytes, where it tells
-record pub IsReady (files : Files) (shares : List (Option Share)) (told : Option (List Change)) : Type 0 where
+pub record IsReady (files : Files) (shares : List (Option Share)) (told : Option (List Change)) : Type 0 where
   pub jobs : files.jobs < 2 ^ 31
   pub pages : length files.pages < 2 ^ 31
   pub paged : (page : PageNo) → thin files ≡ Some page → AllByRecursion (IsPagedIn page shares) (pieces_at files.pages page.0)
   pub there : (page : PageNo) → thin files ≡ Some page → IfSome told (λ changes. AllByRecursion (λ held. HasRange page.0 held.off held.len changes) (pieces_at files.pages page.0))
 
 -- the pieces from 0 up to a number, of one byte each and in memory, in slots of their own
-record pub IsRow (count : ℕ) (shares : List (Option Share)) (pieces : List (PieceNo × ℕ × ℕ)) : Type 0 where
-  pub count : length pieces ≡ count
-  pub below : AllByRecursion (λ piece. piece.0.0 < count) pieces
+pub record IsRow (end : ℕ) (shares : List (Option Share)) (pieces : List (PieceNo × ℕ × ℕ)) : Type 0 where
+  pub count : length pieces ≡ end
+  pub below : AllByRecursion (λ piece. piece.0.0 < end) pieces
   pub apart : IsDistinct nat_eq (map (λ piece. piece.0.0) pieces)
   pub slots : IsDistinct nat_eq (map (λ piece. piece.1) pieces)
   pub long : AllByRecursion (λ piece. piece.2 ≡ 1) pieces

@@ -33,7 +33,7 @@ pub fn store<D: PageDisk>(
     ensures pages { length files.new.pages ≤ length files.old.pages + 1 }
     ensures reserved { MatchResult result
         (λ page. (page.0 ≡ length files.old.pages) × (length files.new.pages ≡ length files.old.pages + 1)
-            × (files.new.reserved ≡ files.old.reserved - length bytes.now))
+        × (files.new.reserved ≡ files.old.reserved - length bytes.now))
         (λ _. files.new.reserved ≡ files.old.reserved) }
     ensures others { (other : ℕ) → other ≢ slot → share_at shares.new other ≡ share_at shares.old other }
 {
@@ -112,10 +112,7 @@ fn well() -> StoreRun {
         first: Ok(PageNo(0)),
         second: Ok(PageNo(1)),
         standing: standing(9, 2),
-        places: (
-            Place::Paged(PageNo(0), 0, 8),
-            Place::Paged(PageNo(1), 0, 1),
-        ),
+        places: (Place::Paged(PageNo(0), 0, 8), Place::Paged(PageNo(1), 0, 1)),
         due: Some((PageNo(0), true)),
         next: Some((PageNo(1), true)),
         end: None,

@@ -3,7 +3,7 @@ ghost use Rattle.pages_tests.specs.Runs.{IsThere};
 
 use crate::fixture::{Ended, Place, Standing, add_two, job_ended, look, place_of};
 use crate::tell::{Told, is_settled, memory_disk, puts, removes, tell};
-use blob_words::{PageNo, PieceNo};
+use blob_words::{JobNo, PageNo, PieceNo};
 use item_shares::Shares;
 use page_disk::{FolderDisk, PageDisk};
 use page_files::{Closed, JobEnd, JobFault, PageFiles};
@@ -15,6 +15,7 @@ use std::test::Fail;
 // What a job of two pieces, of which one is struck, shows from its start to the end of its page.
 #[derive(Clone, Copy, Debug, PartialEq, Eq)]
 struct PageRun {
+    job: JobNo,
     charged: u64,
     struck: u64,
     ended: Ended,
@@ -64,6 +65,7 @@ fn row_whole_page<D: PageDisk>(heap: Global, disk: &mut D) -> Result<PageRun, Fa
     let last = look(&files);
     let closed = files.close(disk);
     Ok(PageRun {
+        job,
         charged,
         struck,
         ended,
@@ -80,6 +82,7 @@ fn row_whole_page<D: PageDisk>(heap: Global, disk: &mut D) -> Result<PageRun, Fa
 // What it shows where nothing fails.
 fn well() -> PageRun {
     PageRun {
+        job: JobNo(0),
         charged: 8,
         struck: 4,
         ended: Ended::Wrote(PageNo(0)),
@@ -115,6 +118,7 @@ fn torn(removed: u32, left: u32) -> PageRun {
         flight: None,
     };
     PageRun {
+        job: JobNo(0),
         charged: 8,
         struck: 4,
         ended: Ended::JobFault(JobFault::Failed(PageNo(0))),
