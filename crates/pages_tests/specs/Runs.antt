@@ -1,6 +1,6 @@
 -- What the runs of the tests need of the calls before. Own.
-use Rattle.std.specs.Prelude.{ℕ, ◌≡◌, ◌+◌, ◌^◌, ◌<◌, ◌≤◌, List, [], map, length, Option, Some, None, Result, Ok, Err, nat_eq, IfSome}
-use Rattle.std.specs.List.{sum_by, AllByRecursion, IsDistinct}
+use Rattle.std.specs.Prelude.{ℕ, ◌≡◌, ◌^◌, ◌<◌, List, map, length, Option, Some, Result, Ok, Err, nat_eq, IfSome}
+use Rattle.std.specs.List.{AllByRecursion, IsDistinct}
 use Rattle.blob_words.specs.declared.number.PieceNo.{PieceNo}
 use Rattle.blob_words.specs.declared.number.PageNo.{PageNo}
 use Rattle.item_shares.specs.declared.shares.Share.{Share}

@@ -1,4 +1,4 @@
-ghost use Rattle.std.specs.Prelude.{◌≡◌, ◌^◌, ◌<◌, ◌≤◌, [], None, length, IfSome};
+ghost use Rattle.std.specs.Prelude.{◌≡◌, ◌≤◌, [], None, IfSome};
 ghost use Rattle.page_files.specs.Files.{Agrees};
 ghost use Rattle.pages_tests.specs.Runs.{IsReady};
 

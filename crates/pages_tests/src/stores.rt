@@ -1,7 +1,7 @@
 ghost use Rattle.std.specs.Prelude.{ℕ, ◌≡◌, ◌≢◌, ◌+◌, ◌-◌, ◌^◌, ◌<◌, ◌≤◌, [], None, length, IfSome, IsSomeAnd, MatchResult, OnErr};
 ghost use Rattle.item_shares.specs.Shares.{item_at, share_at};
 ghost use Rattle.page_files.specs.Items.{IsReservedOf};
-ghost use Rattle.page_files.specs.Files.{room, Agrees};
+ghost use Rattle.page_files.specs.Files.{Agrees};
 
 use crate::fixture::{Place, Standing, look, place_of, reserve_two};
 use crate::tell::{Told, is_settled, memory_disk, puts, tell};
