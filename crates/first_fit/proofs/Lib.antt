@@ -1,0 +1,4 @@
+pub mod Descent
+pub mod Leaves
+pub mod Nodes
+pub mod Written

@@ -1,6 +1,7 @@
-ghost use Rattle.std.specs.Prelude.{◌≡◌, ◌++◌, ◌<◌, ◌-◌, [], ◌∷◌, nat_le, set, take, length, OnErr, OnOk};
+ghost use Rattle.std.specs.Prelude.{◌≡◌, ◌-◌, ◌<◌, ◌++◌, [], ◌∷◌, length, nat_le, set, take, OnErr, OnOk};
 ghost use Rattle.std.specs.List.{position};
 
+use crate::tree::Tree;
 use blob_words::NoMemory;
 use std::alloc::Global;
 use std::marker::Model;
@@ -8,24 +9,31 @@ use std::marker::Model;
 /// A list of values. Contracts see the list.
 #[derive(Debug, Drop)]
 pub struct FirstFit {
-    values: Vec<u64>,
+    alloc: Global,
+    // What stands behind the last value counts for nothing.
+    tree: Tree,
+    len: usize,
 }
 
 impl Model for FirstFit {
-    ghost use Rattle.std.specs.Prelude.{ℕ, List};
+    ghost use Rattle.std.specs.Prelude.{ℕ, ◌≤◌, List, length, take};
 
     ghost Value = { List ℕ };
 
-    ghost view = { λ fit. fit.values.items };
+    ghost view = { λ values. take values.len values.tree };
+
+    ghost invariant = { λ values. values.len ≤ length values.tree };
 }
 
 impl FirstFit {
-    /// No values.
+    /// No values. It takes no memory.
     pub fn new(alloc: Global) -> FirstFit
         ensures { result ≡ [] }
     {
         FirstFit {
-            values: Vec::new(alloc),
+            alloc,
+            tree: Tree::new(alloc),
+            len: 0,
         }
     }
 
@@ -34,7 +42,11 @@ impl FirstFit {
         ensures ok { OnOk result (self.new ≡ self.old ++ value ∷ []) }
         ensures err { OnErr result (self.new ≡ self.old) }
     {
-        self.values.push(value)?;
+        if self.len == self.tree.len() {
+            self.tree.grow(self.alloc)?;
+        }
+        self.tree.set(self.len, value);
+        self.len += 1;
         Ok(())
     }
 
@@ -43,21 +55,22 @@ impl FirstFit {
         requires { 0 < length self.old }
         ensures { self.new ≡ take (length self.old - 1) self.old }
     {
-        let _ = self.values.pop();
+        self.len -= 1;
     }
 
-    /// Writes a value over another.
+    /// Puts a value in the place of another.
     pub fn set(&mut self, index: usize, value: u64)
         requires { index < length self.old }
         ensures { self.new ≡ set self.old index value }
     {
-        self.values[index] = value;
+        self.tree.set(index, value);
     }
 
     /// The place of the first value that is at most `most`.
     pub fn first(&self, most: u64) -> Option<usize>
         ensures { result ≡ position (λ value. nat_le value most) self.now }
     {
-        self.values.iter().position(|value| *value <= most)
+        let index = self.tree.first(most);
+        (index < self.len).then_some(index)
     }
 }

@@ -2,5 +2,6 @@
 #![tactic(auto)]
 
 pub mod fit;
+mod tree;
 
 pub use fit::FirstFit;

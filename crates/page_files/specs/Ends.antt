@@ -1,5 +1,5 @@
 -- How the calls end that write and move pieces. Own.
-use Rattle.std.specs.Prelude.{ℕ, ◌≡◌, ◌≢◌, true, false, List, [], ◌∷◌, length, Option, Some, None, Result, Ok, Err, IfSome, IsSomeAnd}
+use Rattle.std.specs.Prelude.{ℕ, ◌≡◌, ◌≢◌, true, false, List, [], ◌∷◌, length, Option, Result, Ok, Err, is_none, IfSome, IsSomeAnd}
 use Rattle.blob_words.specs.declared.number.PieceNo.{PieceNo}
 use Rattle.blob_words.specs.declared.number.PageNo.{PageNo}
 use Rattle.blob_words.specs.declared.number.JobNo.{JobNo}
@@ -69,49 +69,51 @@ AreTurned old new = (slot : ℕ) → share_at new.shares slot ≡ turned (next_p
 abbrev pub IsTorn : Scene → Scene → Type 0
 IsTorn old new = (new.shares ≡ old.shares) × (new.changes ≡ with_change (changes.Torn (next_page old)) old.changes) × Rose old.faults new.faults
 
--- the page job: its pieces are in the next page, whose bytes are those of the items in memory
-abbrev pub JobEnds : JobNo → Scene → Scene → Result JobEnd JobFault → Type 0
-JobEnds job old new (Ok (job_ends.Paged page pieces)) =
-    (is_page_job job old.files.job ≡ true) × (left old ≢ [])
-    × (page ≡ next_page old) × (pieces ≡ names (left old))
+-- the end of a page job: the pieces left are in the next page, whose bytes are those of the items in memory
+abbrev pub LeftWritten : Scene → Scene → Result JobEnd JobFault → Type 0
+LeftWritten old new (Ok (job_ends.Paged page pieces)) =
+    (left old ≢ []) × (page ≡ next_page old) × (pieces ≡ names (left old))
     × (new.files ≡ with_page (Whole (bytes_of (left old)) (left_placed old)) (without_job old.files))
     × (new.changes ≡ with_change (changes.Put page (bytes_in old.shares (left old))) old.changes)
     × AreTurned old new
-JobEnds job old new (Ok job_ends.Empty) =
-    (is_page_job job old.files.job ≡ true) × (left old ≡ []) × (new.files ≡ without_job old.files) × IsStill old new × (new.faults ≡ old.faults)
+LeftWritten old new (Ok job_ends.Empty) = (left old ≡ []) × (new.files ≡ without_job old.files) × IsStill old new × (new.faults ≡ old.faults)
+LeftWritten old new (Err job_faults.NoJob) = ⊥
+LeftWritten old new (Err (job_faults.Failed page)) =
+    (left old ≢ []) × (page ≡ next_page old) × (new.files ≡ with_page Torn (turned_off old.files)) × IsTorn old new
+LeftWritten old new (Err job_faults.NoMemory) = (new.files ≡ old.files) × IsStill old new × (new.faults ≡ old.faults)
+
+-- a page job ends where it is in flight, else nothing changes
+abbrev pub JobEnds : JobNo → Scene → Scene → Result JobEnd JobFault → Type 0
 JobEnds job old new (Err job_faults.NoJob) =
     (is_page_job job old.files.job ≡ false) × (new.files ≡ old.files) × IsStill old new × (new.faults ≡ old.faults)
-JobEnds job old new (Err (job_faults.Failed page)) =
-    (is_page_job job old.files.job ≡ true) × (left old ≢ [])
-    × (page ≡ next_page old) × (new.files ≡ with_page Torn (turned_off old.files)) × IsTorn old new
-JobEnds job old new (Err job_faults.NoMemory) =
-    (is_page_job job old.files.job ≡ true) × (new.files ≡ old.files) × IsStill old new × (new.faults ≡ old.faults)
+JobEnds job old new end = (is_page_job job old.files.job ≡ true) × LeftWritten old new end
 
 -- what was read of the page that the job moves, where the disk tells
 abbrev pub moved_bytes : PageNo → Scene → List Change → List ℕ
 moved_bytes source scene changes = read_of source changes (left scene)
 
--- the compact job: its pieces are in the next page and reached in their old one no more; want of memory may come after reads
-abbrev pub MoveEnds : JobNo → Scene → Scene → Result MoveEnd MoveFault → Type 0
-MoveEnds job old new (Ok (move_ends.Moved page pieces)) =
-    (is_compact_job job old.files.job ≡ true) × (left old ≢ [])
-    × (page ≡ next_page old) × (pieces ≡ names (left old))
-    × IsSomeAnd (source_of old.files.job) (λ source.
-        (new.files ≡ without_pieces source.0 (left old) (with_page (Whole (bytes_of (left old)) (left_placed old)) (without_job old.files)))
-        × IfSome old.changes (λ before. new.changes ≡ with_change (changes.Put page (moved_bytes source old before)) old.changes))
+-- the end of the compact job of a page: the pieces left are in the next page and reached in their old one no more; want of memory may come after reads
+abbrev pub LeftMoved : PageNo → Scene → Scene → Result MoveEnd MoveFault → Type 0
+LeftMoved source old new (Ok (move_ends.Moved page pieces)) =
+    (left old ≢ []) × (page ≡ next_page old) × (pieces ≡ names (left old))
+    × (new.files ≡ without_pieces source.0 (left old) (with_page (Whole (bytes_of (left old)) (left_placed old)) (without_job old.files)))
+    × IfSome old.changes (λ before. new.changes ≡ with_change (changes.Put page (moved_bytes source old before)) old.changes)
+    × (is_none old.changes ≡ is_none new.changes)
     × AreTurned old new
-MoveEnds job old new (Ok move_ends.Empty) =
-    (is_compact_job job old.files.job ≡ true) × (left old ≡ []) × (new.files ≡ without_job old.files) × IsStill old new × (new.faults ≡ old.faults)
+LeftMoved source old new (Ok move_ends.Empty) = (left old ≡ []) × (new.files ≡ without_job old.files) × IsStill old new × (new.faults ≡ old.faults)
+LeftMoved source old new (Err move_faults.NoJob) = ⊥
+LeftMoved source old new (Err (move_faults.Unread page)) =
+    (left old ≢ []) × (page ≡ source) × (new.files ≡ turned_off old.files) × IsStill old new × Rose old.faults new.faults
+LeftMoved source old new (Err (move_faults.Failed page)) =
+    (left old ≢ []) × (page ≡ next_page old) × (new.files ≡ with_page Torn (turned_off old.files)) × IsTorn old new
+LeftMoved source old new (Err move_faults.NoMemory) = (new.files ≡ old.files) × IsStill old new
+
+-- a compact job ends where it is in flight, else nothing changes
+abbrev pub MoveEnds : JobNo → Scene → Scene → Result MoveEnd MoveFault → Type 0
 MoveEnds job old new (Err move_faults.NoJob) =
     (is_compact_job job old.files.job ≡ false) × (new.files ≡ old.files) × IsStill old new × (new.faults ≡ old.faults)
-MoveEnds job old new (Err (move_faults.Unread page)) =
-    (is_compact_job job old.files.job ≡ true) × (left old ≢ [])
-    × (source_of old.files.job ≡ Some page) × (new.files ≡ turned_off old.files) × IsStill old new × Rose old.faults new.faults
-MoveEnds job old new (Err (move_faults.Failed page)) =
-    (is_compact_job job old.files.job ≡ true) × (left old ≢ [])
-    × (page ≡ next_page old) × (new.files ≡ with_page Torn (turned_off old.files)) × IsTorn old new
-MoveEnds job old new (Err move_faults.NoMemory) =
-    (is_compact_job job old.files.job ≡ true) × (new.files ≡ old.files) × IsStill old new
+MoveEnds job old new end =
+    (is_compact_job job old.files.job ≡ true) × IsSomeAnd (source_of old.files.job) (λ source. LeftMoved source old new end)
 
 -- a reserved piece with its bytes: it is in the next page, alone; a fault leaves it reserved
 abbrev pub StoreEnds : PieceNo → ℕ → List ℕ → Scene → Scene → Result PageNo StoreFault → Type 0

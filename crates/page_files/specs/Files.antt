@@ -1,5 +1,5 @@
 -- Page files with what is reserved and the job in flight, and what each call does to them. Own.
-use Rattle.std.specs.Prelude.{ℕ, ◌≡◌, ◌≢◌, ◌+◌, ◌-◌, ◌^◌, ◌<◌, ◌≤◌, ◌⊎◌, ◌||◌, ◌&&◌, Bool, true, false, List, [], ◌∷◌, ◌++◌, not, map, fold, set, length, Option, Some, None, is_some, is_none, nat_eq, if◌then◌else◌}
+use Rattle.std.specs.Prelude.{ℕ, ◌≡◌, ◌+◌, ◌-◌, ◌^◌, ◌≤◌, ◌⊎◌, ◌||◌, ◌&&◌, Bool, true, false, List, [], ◌∷◌, ◌++◌, not, map, fold, set, length, Option, Some, None, is_some, is_none, nat_eq, if◌then◌else◌}
 use Rattle.std.specs.Option.{option_map}
 use Rattle.std.specs.List.{count_by, list_any, position}
 use Rattle.blob_words.specs.declared.number.PieceNo.{PieceNo}
@@ -12,9 +12,9 @@ use Rattle.page_files.specs.declared.ending.Closed.{Closed}
 use Rattle.page_files.specs.declared.held.Held.{Held}
 use Rattle.page_files.specs.declared.job.Job.{Job}
 use Rattle.page_files.specs.declared.page.Page.{Page}
-use Rattle.page_files.specs.declared.page.Page.TheVariants.{Torn, Whole, Asked}
+use Rattle.page_files.specs.declared.page.Page.TheVariants.{Asked}
 use Rattle.page_files.specs.Pieces.{bytes_of, without}
-use Rattle.page_files.specs.Pages.{can_move, is_unasked, page_at, page_charge, pieces_at, released_at}
+use Rattle.page_files.specs.Pages.{can_move, is_unasked, page_at, page_charge, released_at}
 
 -- the bytes that may be charged, the pages by their numbers, the bytes reserved, the job in flight, whether pieces may still be paged, and how many jobs were started
 pub record Files : Type 0 where

@@ -6,3 +6,4 @@ pub mod Items
 pub mod Writes
 pub mod Files
 pub mod Ends
+pub mod Endings

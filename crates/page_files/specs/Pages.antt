@@ -1,5 +1,5 @@
 -- Page files, the pieces in them that are reached, and what is charged for them. Own.
-use Rattle.std.specs.Prelude.{ℕ, ◌≡◌, ◌*◌, ◌&&◌, Bool, true, false, List, [], ◌∷◌, not, set, slice_index_or, nat_lt, nat_le, if◌then◌else◌}
+use Rattle.std.specs.Prelude.{ℕ, ◌*◌, ◌&&◌, Bool, true, false, List, [], ◌∷◌, not, set, slice_index_or, nat_lt, nat_le, if◌then◌else◌}
 use Rattle.std.specs.List.{sum_by, count_by}
 use Rattle.blob_words.specs.declared.number.PieceNo.{PieceNo}
 use Rattle.page_files.specs.declared.held.Held.{Held}

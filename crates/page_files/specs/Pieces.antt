@@ -1,5 +1,5 @@
 -- Pieces of pages and jobs. Own.
-use Rattle.std.specs.Prelude.{ℕ, ◌≡◌, ◌+◌, ◌<◌, List, [], ◌∷◌, not, map, nat_eq}
+use Rattle.std.specs.Prelude.{ℕ, ◌+◌, ◌<◌, List, [], ◌∷◌, not, map, nat_eq}
 use Rattle.std.specs.List.{filter, sum_by}
 use Rattle.blob_words.specs.declared.number.PieceNo.{PieceNo}
 use Rattle.page_files.specs.declared.held.Held.{Held}

@@ -1,3 +1,6 @@
+ghost use Rattle.std.specs.Prelude.{◌≡◌, ◌+◌, ◌^◌, ◌<◌};
+ghost use Rattle.page_files.specs.Endings.{counted};
+
 use blob_words::{PageNo, PieceList};
 
 /// How a page job ended without a fault.
@@ -25,4 +28,18 @@ pub struct Closed {
     pub removed: u32,
     /// Those that the disk left.
     pub left: u32,
+}
+
+impl Closed {
+    // Counts a removal, where one was asked for; whether the page went.
+    pub(crate) fn count(&mut self, goes: Option<bool>)
+        requires { self.old.removed + self.old.left < 2 ^ 31 }
+        ensures { self.new ≡ counted goes self.old }
+    {
+        match goes {
+            Some(true) => self.removed += 1,
+            Some(false) => self.left += 1,
+            None => {}
+        }
+    }
 }

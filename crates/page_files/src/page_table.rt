@@ -2,6 +2,7 @@ ghost use Rattle.std.specs.Prelude.{◌≡◌, ◌+◌, ◌-◌, ◌^◌, ◌<�
 ghost use Rattle.std.specs.Option.{option_map_or};
 ghost use Rattle.std.specs.List.{position, AllByRecursion, IsDistinct};
 ghost use Rattle.page_files.specs.declared.page.Page.TheVariants.{Torn};
+ghost use Rattle.page_files.specs.Keys.{HasSize};
 ghost use Rattle.page_files.specs.Pieces.{bytes_of, numbers, HasBytes};
 ghost use Rattle.page_files.specs.Pages.{can_move, is_due, is_held, is_unasked, page_at, pieces_at, released_at, size_of};
 
@@ -25,14 +26,16 @@ pub struct PageTable {
 impl Model for PageTable {
     ghost use Rattle.std.specs.Prelude.{◌≡◌, List, map};
     ghost use Rattle.page_files.specs.declared.page.Page.{Page};
-    ghost use Rattle.page_files.specs.Keys.{due_key, thin_key};
+    ghost use Rattle.std.specs.List.{AllByRecursion};
+    ghost use Rattle.page_files.specs.Keys.{due_key, thin_key, HasSize};
 
     ghost Value = { List Page };
 
     ghost view = { λ table. table.pages.items };
 
     ghost invariant = { λ table. (table.thin ≡ map thin_key table.pages.items)
-        × (table.due ≡ map due_key table.pages.items) };
+        × (table.due ≡ map due_key table.pages.items)
+        × AllByRecursion HasSize table.pages.items };
 }
 
 impl PageTable {
@@ -84,7 +87,8 @@ impl PageTable {
 
     /// Says what became of a page.
     pub fn put(&mut self, place: usize, page: Page)
-        requires { place < length self.old }
+        requires place { place < length self.old }
+        requires size { HasSize page }
         ensures { self.new ≡ set self.old place page }
     {
         self.thin.set(place, page.thin_key());
@@ -148,6 +152,7 @@ impl PageTable {
     }
 
     /// The reached pieces in the page, by rising offset.
+    #[tactic(auto, using(crate::proofs::Pages::apart_none))]
     pub fn pieces_at(&self, alloc: Global, place: usize) -> Result<Vec<Held>, NoMemory>
         ensures value { IfOk result (λ list. list.items ≡ pieces_at self.now place) }
         ensures apart { IsDistinct nat_eq (numbers (pieces_at self.now place)) }

@@ -93,6 +93,7 @@ impl PieceTable {
         ensures long { AllByRecursion HasBytes self.now }
         ensures fits { bytes_of self.now < 2 ^ 64 }
     {
+        let _bytes = self.bytes;
         let mut list = Vec::new(alloc);
         for (piece, place) in self.places.iter() {
             if place.is_in {

@@ -1,13 +1,24 @@
-ghost use Rattle.std.specs.Prelude.{◌≡◌, ◌+◌, ◌-◌, ◌^◌, ◌≤◌, None, length, min, IfSome, OnErr, OnOk};
+ghost use Rattle.std.specs.Prelude.{◌≡◌, ◌+◌, ◌-◌, ◌^◌, ◌≤◌, None, length, min, IfSome, IfOk, IsErrOf, OnErr, OnOk};
 ghost use Rattle.std.specs.List.{AllByRecursion};
 ghost use Rattle.blob_source.specs.Faults.{Rose};
 ghost use Rattle.page_disk.specs.Changes.{HasRange};
 ghost use Rattle.page_files.specs.Pieces.{bytes_of};
 ghost use Rattle.page_files.specs.Writes.{range_of, read_of, spliced};
 
+use crate::copies::zeros;
 use crate::held::Held;
 use blob_words::{Failed, PageNo};
 use page_disk::PageDisk;
+use std::alloc::Global;
+
+// Why pieces were not read.
+#[derive(Clone, Copy, Debug)]
+pub enum ReadFault {
+    // The disk failed; its count of faults rose.
+    Unread,
+    // Want of memory; the disk is as it was.
+    NoMemory,
+}
 
 // Reads one piece into its place in the buffer.
 fn read_at<D: PageDisk>(
@@ -36,7 +47,7 @@ fn read_at<D: PageDisk>(
 
 // Reads the pieces of a page one after the other into a buffer as long as all of them, and stops at
 // the first that the disk fails to read.
-pub fn read_pieces<D: PageDisk>(
+fn read_pieces<D: PageDisk>(
     disk: &mut D,
     page: PageNo,
     pieces: &[Held],
@@ -53,9 +64,9 @@ pub fn read_pieces<D: PageDisk>(
         ≡ read_of page changes pieces.now)) }
     ensures failed { OnErr result (Rose (D.faults disk.old) (D.faults disk.new)) }
     ensures later { D.faults disk.old ≤ D.faults disk.new }
-    ensures read { OnOk result (D.meter disk.new
+    ensures read { OnOk result (min (D.meter disk.new) (2 ^ 64 - 1)
         ≡ min (D.meter disk.old + bytes_of pieces.now) (2 ^ 64 - 1)) }
-    ensures meter { D.meter disk.old ≤ D.meter disk.new }
+    ensures meter { min (D.meter disk.old) (2 ^ 64 - 1) ≤ D.meter disk.new }
 {
     let mut start = 0;
     for held in pieces {
@@ -65,4 +76,37 @@ pub fn read_pieces<D: PageDisk>(
         }
     }
     Ok(())
+}
+
+// Reads the pieces of a page, which have `len` bytes, into one buffer. It takes the memory for it
+// first.
+pub fn read_all<D: PageDisk>(
+    alloc: Global,
+    disk: &mut D,
+    page: PageNo,
+    pieces: &[Held],
+    len: u64,
+) -> Result<Vec<u8>, ReadFault>
+    requires closed { D.writing disk.old ≡ None }
+    requires there { IfSome (D.changes disk.old) (λ changes.
+        AllByRecursion (λ held. HasRange page.0 held.off held.len changes) pieces.now) }
+    requires len { len ≡ bytes_of pieces.now }
+    ensures closed { D.writing disk.new ≡ None }
+    ensures same { D.changes disk.new ≡ D.changes disk.old }
+    ensures len { IfOk result (λ bytes. length bytes.items ≡ bytes_of pieces.now) }
+    ensures bytes { IfOk result (λ bytes. IfSome (D.changes disk.old) (λ changes. bytes.items
+        ≡ read_of page changes pieces.now)) }
+    ensures unread { IsErrOf result ReadFault.Unread → Rose (D.faults disk.old) (D.faults disk.new) }
+    ensures later { D.faults disk.old ≤ D.faults disk.new }
+    ensures read { IfOk result (λ _. min (D.meter disk.new) (2 ^ 64 - 1)
+        ≡ min (D.meter disk.old + bytes_of pieces.now) (2 ^ 64 - 1)) }
+    ensures meter { min (D.meter disk.old) (2 ^ 64 - 1) ≤ D.meter disk.new }
+{
+    let Ok(mut buffer) = zeros(alloc, len as usize) else {
+        return Err(ReadFault::NoMemory);
+    };
+    match read_pieces(disk, page, pieces, buffer.as_mut_slice()) {
+        Ok(()) => Ok(buffer),
+        Err(Failed) => Err(ReadFault::Unread),
+    }
 }

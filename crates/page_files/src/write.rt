@@ -44,7 +44,7 @@ fn append_items<D: PageDisk>(disk: &mut D, pieces: &[Held], shares: &Shares) -> 
     ensures ok { OnOk result ((D.writing disk.new ≡ with_more (bytes_of pieces.now) (D.writing disk.old))
         × (D.changes disk.new ≡ D.changes disk.old)
         × IfSome (D.changes disk.new) (λ _. D.came disk.new
-            ≡ D.came disk.old ++ bytes_in shares.now pieces.now)) }
+        ≡ D.came disk.old ++ bytes_in shares.now pieces.now)) }
     ensures failed { OnErr result ((D.writing disk.new ≡ None)
         × (D.changes disk.new ≡ with_torn (D.writing disk.old) (D.changes disk.old))
         × Rose (D.faults disk.old) (D.faults disk.new)) }

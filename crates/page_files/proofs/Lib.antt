@@ -1,0 +1,11 @@
+pub mod Agreement
+pub mod Charges
+pub mod Closing
+pub mod Items
+pub mod Lists
+pub mod NextPages
+pub mod Pages
+pub mod Places
+pub mod Releasing
+pub mod Turning
+pub mod Writing
