@@ -1,7 +1,8 @@
-ghost use Rattle.std.specs.Prelude.{◌≡◌, [], None, IfSome};
+ghost use Rattle.std.specs.Prelude.{◌≡◌, [], None, length, IfOk, IfSome};
+ghost use Rattle.page_files.specs.Files.{Agrees};
 
 use crate::fixture::{Place, Standing, add_reserved, look, place_of};
-use crate::stores::store;
+use crate::steps::{release, store};
 use crate::tell::{Told, is_settled, memory_disk, tell};
 use blob_words::{PageNo, PieceNo};
 use item_shares::Shares;
@@ -20,6 +21,12 @@ struct LongRun {
     stored: Result<PageNo, StoreFault>,
     standing: Standing,
     place: Place,
+    removed: LongRemoved,
+}
+
+// What its removal shows.
+#[derive(Clone, Copy, Debug, PartialEq, Eq)]
+struct LongRemoved {
     due: Option<(PageNo, bool)>,
     charged: u64,
     closed: Closed,
@@ -34,6 +41,56 @@ fn long_bytes(heap: Global) -> Result<Vec<u8>, Fail> {
     Ok(bytes)
 }
 
+// Page files with the bytes of the page reserved.
+fn long_reserved(heap: Global) -> Result<PageFiles, Fail>
+    ensures { IfOk result (λ files. (files.pages ≡ []) × (files.reserved ≡ 131073)) }
+{
+    let mut files = PageFiles::new(heap, 262_144)?;
+    files.reserve(131_073);
+    Ok(files)
+}
+
+// Stores the bytes, and removes their page.
+fn store_long<D: PageDisk>(
+    heap: Global,
+    files: &mut PageFiles,
+    bytes: &[u8],
+    disk: &mut D,
+) -> Result<LongRun, Fail>
+    requires closed { D.writing disk.old ≡ None }
+    requires agrees { IfSome (D.changes disk.old) (Agrees files.old.pages) }
+    requires len { length bytes.now ≡ 131073 }
+    requires reserved { files.old.reserved ≡ 131073 }
+    requires numbers { length files.old.pages ≡ 0 }
+{
+    let mut shares = Shares::new(heap)?;
+    let slot = add_reserved(&mut shares, PieceNo(0), 131_073)?;
+    let stored = store(files, slot, bytes, &mut shares, disk);
+    Ok(LongRun {
+        stored,
+        standing: look(files),
+        place: place_of(&shares, slot),
+        removed: remove_long(files, disk),
+    })
+}
+
+// Reaches the piece no more, and removes its page.
+fn remove_long<D: PageDisk>(files: &mut PageFiles, disk: &mut D) -> LongRemoved
+    requires closed { D.writing disk.old ≡ None }
+    requires agrees { IfSome (D.changes disk.old) (Agrees files.old.pages) }
+{
+    release(files, 0, 0, disk);
+    let due = files.remove_due(disk);
+    let charged = files.charged();
+    let closed = files.close(disk);
+    LongRemoved {
+        due,
+        charged,
+        closed,
+    }
+}
+
+#[tactic(auto, using(crate::proofs::Told::told_none))]
 fn row_long_page<D: PageDisk>(heap: Global, disk: &mut D) -> Result<LongRun, Fail>
     requires closed { D.writing disk.old ≡ None }
     requires fresh { IfSome (D.changes disk.old) (λ changes. changes ≡ []) }
@@ -42,25 +99,8 @@ fn row_long_page<D: PageDisk>(heap: Global, disk: &mut D) -> Result<LongRun, Fai
     if bytes.len() != 131_073 {
         return Err(Fail::new("other bytes"));
     }
-    let mut files = PageFiles::new(heap, 262_144)?;
-    let mut shares = Shares::new(heap)?;
-    let slot = add_reserved(&mut shares, PieceNo(0), 131_073)?;
-    files.reserve(131_073);
-    let stored = store(&mut files, slot, bytes.as_slice(), &mut shares, disk);
-    let standing = look(&files);
-    let place = place_of(&shares, slot);
-    files.release_piece(PageNo(0), PieceNo(0));
-    let due = files.remove_due(disk);
-    let charged = files.charged();
-    let closed = files.close(disk);
-    Ok(LongRun {
-        stored,
-        standing,
-        place,
-        due,
-        charged,
-        closed,
-    })
+    let mut files = long_reserved(heap)?;
+    store_long(heap, &mut files, bytes.as_slice(), disk)
 }
 
 fn standing(files: u32) -> Standing {
@@ -78,11 +118,13 @@ fn well() -> LongRun {
         stored: Ok(PageNo(0)),
         standing: standing(1),
         place: Place::Paged(PageNo(0), 0, 131_073),
-        due: Some((PageNo(0), true)),
-        charged: 0,
-        closed: Closed {
-            removed: 0,
-            left: 0,
+        removed: LongRemoved {
+            due: Some((PageNo(0), true)),
+            charged: 0,
+            closed: Closed {
+                removed: 0,
+                left: 0,
+            },
         },
     }
 }
@@ -93,11 +135,13 @@ fn torn() -> LongRun {
         stored: Err(StoreFault::Failed(PageNo(0))),
         standing: standing(0),
         place: Place::Reserved,
-        due: None,
-        charged: 131_073,
-        closed: Closed {
-            removed: 1,
-            left: 0,
+        removed: LongRemoved {
+            due: None,
+            charged: 131_073,
+            closed: Closed {
+                removed: 1,
+                left: 0,
+            },
         },
     }
 }
@@ -164,10 +208,8 @@ fn a_long_page_may_be_left(rt: HostRuntime) -> Result<(), Fail> {
         removed: 0,
         left: 1,
     };
-    let left = LongRun {
-        due: Some((PageNo(0), false)),
-        ..well()
-    };
+    let mut left = well();
+    left.removed.due = Some((PageNo(0), false));
     check(&rt, heap, &[1], &[], left, told)?;
     let gone = Told {
         removed: 1,
