@@ -1,6 +1,7 @@
 -- What a disk tells, where it tells.
-use Rattle.std.proofs.Common.{◌≡◌, List, [], ◌∷◌, Option, Some, None, refl}
+use Rattle.std.proofs.Common.{◌≡◌, nat_eq, List, [], ◌∷◌, Option, Some, None, refl}
 use Rattle.std.specs.Prelude.{IfSome}
+use Rattle.std.specs.List.{IsDistinct}
 use Rattle.page_disk.specs.declared.change.Change.{Change}
 use Rattle.page_files.specs.declared.page.Page.{Page}
 use Rattle.page_files.specs.Files.{Agrees}
@@ -15,3 +16,8 @@ pub told_none : (told : Option (List Change)) → IfSome told (λ changes. chang
 told_none None so = tt
 told_none (Some []) so = record { standing = λ page. refl; above = λ page past. refl }
 told_none (Some (change ∷ changes)) so = cc
+
+-- the numbers of two pieces
+pub two_apart : IsDistinct nat_eq (0 ∷ 1 ∷ [])
+unfolding IsDistinct
+two_apart = ((refl, tt), (tt, tt))

@@ -1,5 +1,5 @@
 -- What the runs of the tests need of the calls before. Own.
-use Rattle.std.specs.Prelude.{ℕ, ◌≡◌, ◌^◌, ◌<◌, List, map, length, Option, Some, Result, Ok, Err, nat_eq, IfSome}
+use Rattle.std.specs.Prelude.{ℕ, ◌≡◌, ◌^◌, ◌<◌, List, [], ◌∷◌, map, length, Option, Some, Result, Ok, Err, nat_eq, IfSome}
 use Rattle.std.specs.List.{AllByRecursion, IsDistinct}
 use Rattle.blob_words.specs.declared.number.PieceNo.{PieceNo}
 use Rattle.blob_words.specs.declared.number.PageNo.{PageNo}
@@ -9,6 +9,7 @@ use Rattle.page_disk.specs.Changes.{HasRange}
 use Rattle.page_files.specs.declared.ending.JobEnd.{JobEnd}
 use Rattle.page_files.specs.declared.ending.JobEnd.TheVariants as job_ends
 use Rattle.page_files.specs.declared.fault.JobFault.{JobFault}
+use Rattle.page_files.specs.declared.held.Held.{Held}
 use Rattle.page_files.specs.Pieces.{named}
 use Rattle.page_files.specs.Pages.{pieces_at}
 use Rattle.page_files.specs.Items.{IsMemoryIn, IsPagedIn}
@@ -16,6 +17,14 @@ use Rattle.page_files.specs.Files.{Files, thin}
 
 abbrev pub piece_no : ℕ → PieceNo
 piece_no number = record { 0 = number }
+
+-- a piece of four bytes in a slot
+abbrev pub four : ℕ → ℕ → Held
+four number slot = record { piece = piece_no number; slot = slot; off = 0; len = 4 }
+
+-- the pieces 0 and 1, of four bytes each
+abbrev pub two_pieces : ℕ → ℕ → List Held
+two_pieces first second = four 0 first ∷ four 1 second ∷ []
 
 -- the page that a job wrote has so many bytes, where the disk tells
 abbrev pub IsThere : ℕ → Option (List Change) → Result JobEnd JobFault → Type 0

@@ -4,6 +4,8 @@
 #[cfg(test)]
 mod fixture;
 #[cfg(test)]
+mod jobs;
+#[cfg(test)]
 mod long_page;
 #[cfg(test)]
 mod reserves;
@@ -13,3 +15,5 @@ mod steps;
 mod stores;
 #[cfg(test)]
 mod tell;
+#[cfg(test)]
+mod whole_page;
