@@ -1,0 +1,19 @@
+//! Tests of page files over disks of memory and over a folder.
+#![tactic(auto)]
+
+#[cfg(test)]
+mod fixture;
+#[cfg(test)]
+mod jobs;
+#[cfg(test)]
+mod long_page;
+#[cfg(test)]
+mod reserves;
+#[cfg(test)]
+mod steps;
+#[cfg(test)]
+mod stores;
+#[cfg(test)]
+mod tell;
+#[cfg(test)]
+mod whole_page;
