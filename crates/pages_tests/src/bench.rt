@@ -1,11 +1,11 @@
 //! What the runs of many pages and of moves do with page files.
-ghost use Rattle.std.specs.Prelude.{◌≡◌, ◌+◌, ◌^◌, ◌<◌, ◌≤◌, [], None, length, IfOk, IfSome, IsSomeAnd, MatchResult};
+ghost use Rattle.std.specs.Prelude.{◌≡◌, ◌+◌, ◌^◌, ◌<◌, ◌≤◌, [], None, true, length, IfOk, IfSome, IsSomeAnd, MatchResult};
 ghost use Rattle.item_shares.specs.Shares.{item_at};
-ghost use Rattle.page_files.specs.Items.{IsReservedOf};
-ghost use Rattle.page_files.specs.Files.{new_files, Agrees};
+ghost use Rattle.page_files.specs.Items.{IsMemoryIn, IsPagedIn, IsReservedOf};
+ghost use Rattle.page_files.specs.Files.{alone, new_files, Agrees};
 
-use blob_words::{NoMemory, PageNo};
-use item_shares::Shares;
+use blob_words::{NoMemory, PageNo, PieceNo};
+use item_shares::{Item, Shares};
 use page_disk::PageDisk;
 use page_files::{PageFiles, StoreFault};
 use std::alloc::Global;
@@ -46,4 +46,37 @@ pub fn store<D: PageDisk>(
         (λ _. length files.new.pages ≤ length files.old.pages + 1) }
 {
     files.store_piece(slot, bytes, shares, disk)
+}
+
+/// Whether the slot holds the piece in memory, with so many bytes.
+pub fn is_memory(shares: &Shares, slot: usize, piece: PieceNo, len: u64) -> bool
+    ensures { result ≡ true → IsMemoryIn shares.now (alone piece slot len) }
+{
+    match shares.get(slot) {
+        Some(Item::Memory { piece: one, bytes }) => one.0 == piece.0 && bytes.len() as u64 == len,
+        Some(Item::Paged { .. }) => false,
+        Some(Item::Reserved { .. }) => false,
+        Some(Item::File { .. }) => false,
+        Some(Item::Range { .. }) => false,
+        None => false,
+    }
+}
+
+/// Whether the slot holds the piece in this page, from its start on, with so many bytes.
+pub fn is_paged(shares: &Shares, slot: usize, page: PageNo, piece: PieceNo, len: u64) -> bool
+    ensures { result ≡ true → IsPagedIn page shares.now (alone piece slot len) }
+{
+    match shares.get(slot) {
+        Some(Item::Memory { .. }) => false,
+        Some(Item::Paged {
+            piece: one,
+            page: place,
+            off,
+            len: long,
+        }) => one.0 == piece.0 && place.0 == page.0 && *off == 0 && *long == len,
+        Some(Item::Reserved { .. }) => false,
+        Some(Item::File { .. }) => false,
+        Some(Item::Range { .. }) => false,
+        None => false,
+    }
 }
