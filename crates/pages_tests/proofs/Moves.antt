@@ -1,5 +1,5 @@
 -- A page of two pieces, one of which is reached no more, and its move.
-use Rattle.std.proofs.Common.{◌≡◌, ℕ, ◌+◌, ◌<◌, ◌≤◌, List, [], ◌∷◌, ◌++◌, Option, Some, None, length, nat_eq, refl, sym, ap, ◌∙◌, arith, subst, true, false, Result, Ok, Err}
+use Rattle.std.proofs.Common.{◌≡◌, ℕ, ◌≤◌, ◌&&◌, Bool, is_none, List, [], ◌∷◌, ◌++◌, Option, Some, None, length, nat_eq, refl, sym, ap, ◌∙◌, arith, subst, true, false, Result, Ok, Err}
 use Rattle.std.specs.Prelude.{IfSome, IfOk, IsSomeAnd}
 use Rattle.std.specs.Option.{option_map_or}
 use Rattle.std.specs.List.{AllByRecursion, IsDistinct}
@@ -18,11 +18,10 @@ use Rattle.page_files.specs.declared.ending.JobEnd.TheVariants as job_ends
 use Rattle.page_files.specs.declared.fault.JobFault.{JobFault}
 use Rattle.page_files.specs.declared.fault.JobFault.TheVariants as job_faults
 use Rattle.page_files.specs.declared.held.Held.{Held}
-use Rattle.page_files.specs.declared.page.Page.{Page}
 use Rattle.page_files.specs.declared.page.Page.TheVariants.{Whole}
 use Rattle.page_files.specs.Items.{bytes_in, item_bytes, IsMemoryIn, IsMemoryOf}
 use Rattle.page_files.specs.Pieces.{bytes_of, placed}
-use Rattle.page_files.specs.Files.{Files, page_no, left_of, new_files, with_job, with_page, without_job}
+use Rattle.page_files.specs.Files.{Files, is_in_flight, page_no, source_of, left_of, new_files, with_job, with_page, without_job}
 use Rattle.page_files.specs.Ends.{Scene, JobEnds}
 use Rattle.pages_tests.specs.Bench.{both_held, first_held, second_held, page_of_both}
 
@@ -84,3 +83,16 @@ module _ (limit first second : ℕ) (job : JobNo) (old new : Scene) (is : old.fi
       clash : left_of old.files.job ≡ both_held first second → left_of old.files.job ≡ [] → ⊥
       clash all none = cc (all, none)
   both_there (Err fault) ends fresh items = tt
+
+not_page : (flight : Bool) (source : Option PageNo) (page : PageNo) → source ≡ Some page → (flight && is_none source) ≡ true → ⊥
+not_page true None page is so = cc
+not_page true (Some one) page is so = cc
+not_page false source page is so = cc
+
+-- a compact job does not end as a page job
+pub no_page_job : (job : JobNo) (old new : Scene) (end : Result JobEnd JobFault) (source : PageNo) → source_of old.files.job ≡ Some source → JobEnds job old new end → new.files ≡ old.files
+no_page_job job old new (Ok (job_ends.Paged page pieces)) source is ends = absurd (not_page (is_in_flight job old.files.job) (source_of old.files.job) source is ends.0)
+no_page_job job old new (Ok job_ends.Empty) source is ends = absurd (not_page (is_in_flight job old.files.job) (source_of old.files.job) source is ends.0)
+no_page_job job old new (Err job_faults.NoJob) source is ends = ends.1
+no_page_job job old new (Err (job_faults.Failed page)) source is ends = absurd (not_page (is_in_flight job old.files.job) (source_of old.files.job) source is ends.0)
+no_page_job job old new (Err job_faults.NoMemory) source is ends = absurd (not_page (is_in_flight job old.files.job) (source_of old.files.job) source is ends.0)

@@ -12,11 +12,7 @@ use std::alloc::Global;
 
 /// Page files for a disk that did nothing yet.
 #[tactic(auto, using(crate::proofs::Many::agrees_fresh))]
-pub fn fresh_files<D: PageDisk>(
-    heap: Global,
-    limit: u64,
-    disk: &D,
-) -> Result<PageFiles, NoMemory>
+pub fn fresh_files<D: PageDisk>(heap: Global, limit: u64, disk: &D) -> Result<PageFiles, NoMemory>
     requires fresh { IfSome (D.changes disk.now) (λ changes. changes ≡ []) }
     ensures files { IfOk result (λ files. files ≡ new_files limit) }
     ensures agrees { IfOk result (λ files. IfSome (D.changes disk.now) (Agrees files.pages)) }
@@ -68,12 +64,14 @@ pub fn is_paged(shares: &Shares, slot: usize, page: PageNo, piece: PieceNo, len:
 {
     match shares.get(slot) {
         Some(Item::Memory { .. }) => false,
-        Some(Item::Paged {
-            piece: one,
-            page: place,
-            off,
-            len: long,
-        }) => one.0 == piece.0 && place.0 == page.0 && *off == 0 && *long == len,
+        Some(
+            Item::Paged {
+                piece: one,
+                page: place,
+                off,
+                len: long,
+            },
+        ) => one.0 == piece.0 && place.0 == page.0 && *off == 0 && *long == len,
         Some(Item::Reserved { .. }) => false,
         Some(Item::File { .. }) => false,
         Some(Item::Range { .. }) => false,

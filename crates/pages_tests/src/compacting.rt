@@ -2,8 +2,8 @@ ghost use Rattle.std.specs.Prelude.{◌≡◌, ◌<◌, ◌≤◌, ◌^◌, [], 
 ghost use Rattle.std.specs.List.{AllByRecursion};
 ghost use Rattle.page_disk.specs.Changes.{HasRange};
 ghost use Rattle.page_files.specs.Items.{IsMemoryIn, IsPagedIn};
-ghost use Rattle.page_files.specs.Files.{new_files, page_no, with_job, Agrees};
-ghost use Rattle.pages_tests.specs.Bench.{both_held, first_held, page_of_both, page_of_first, second_held};
+ghost use Rattle.page_files.specs.Files.{new_files, page_no, source_of, with_job, Agrees};
+ghost use Rattle.pages_tests.specs.Bench.{both_held, first_held, page_of_both, page_of_first};
 
 use crate::bench::{fresh_files, is_memory, is_paged};
 use crate::fixture::{Ended, Place, Standing, add_memory, job_ended, look, move_ended, place_of};
@@ -31,7 +31,6 @@ fn add_both(heap: Global, shares: &mut Shares) -> Result<(usize, usize), Fail>
 }
 
 // Starts the first job, of both pieces.
-#[tactic(auto, using(crate::proofs::Moves::both_apart))]
 fn start_both(files: &mut PageFiles, first: usize, second: usize) -> Result<JobNo, NoMemory>
     requires fresh { files.old ≡ new_files files.old.limit }
     requires enough { 7 ≤ files.old.limit }
@@ -53,8 +52,7 @@ fn finish_both<D: PageDisk>(
     requires closed { D.writing disk.old ≡ None }
     requires fresh { IfSome (D.changes disk.old) (λ changes. changes ≡ []) }
     requires agrees { IfSome (D.changes disk.old) (Agrees []) }
-    requires started {
-        files.old ≡ with_job None (both_held slots.0 slots.1) (new_files files.old.limit) }
+    requires started { files.old ≡ with_job None (both_held slots.0 slots.1) (new_files files.old.limit) }
     requires items { AllByRecursion (IsMemoryIn shares.old) (both_held slots.0 slots.1) }
     ensures closed { D.writing disk.new ≡ None }
     ensures agrees { IfSome (D.changes disk.new) (Agrees files.new.pages) }
@@ -251,8 +249,7 @@ fn run_both<D: PageDisk>(
     requires closed { D.writing disk.old ≡ None }
     requires fresh { IfSome (D.changes disk.old) (λ changes. changes ≡ []) }
     requires agrees { IfSome (D.changes disk.old) (Agrees []) }
-    requires started {
-        files.old ≡ with_job None (both_held slots.0 slots.1) (new_files files.old.limit) }
+    requires started { files.old ≡ with_job None (both_held slots.0 slots.1) (new_files files.old.limit) }
     requires items { AllByRecursion (IsMemoryIn shares.old) (both_held slots.0 slots.1) }
 {
     let end = finish_both(files, job, slots, shares, disk);
@@ -486,13 +483,33 @@ struct EmptyRun {
     closed: Closed,
 }
 
-// Ends a job of which no piece is left, first as a page job.
+// Ends a compact job as if it were a page job, which changes nothing.
+#[tactic(auto, using(crate::proofs::Moves::no_page_job))]
+fn end_as_page_job<D: PageDisk>(
+    files: &mut PageFiles,
+    job: JobNo,
+    shares: &mut Shares,
+    disk: &mut D,
+) -> Ended
+    requires closed { D.writing disk.old ≡ None }
+    requires agrees { IfSome (D.changes disk.old) (Agrees files.old.pages) }
+    requires few { length files.old.pages < 2 ^ 31 }
+    requires moves { source_of files.old.job ≡ Some (page_no 0) }
+    ensures closed { D.writing disk.new ≡ None }
+    ensures agrees { IfSome (D.changes disk.new) (Agrees files.new.pages) }
+    ensures same { files.new ≡ files.old }
+{
+    let end = files.finish_job(job, shares, disk);
+    job_ended(&end, &[])
+}
+
+// Ends the move of page 0 of which no piece is left, first as a page job.
 fn end_empty<D: PageDisk>(
     files: &mut PageFiles,
     job: JobNo,
     shares: &mut Shares,
     disk: &mut D,
-) -> Result<(Ended, Ended), Fail>
+) -> (Ended, Ended)
     requires closed { D.writing disk.old ≡ None }
     requires agrees { IfSome (D.changes disk.old) (Agrees files.old.pages) }
     requires few { length files.old.pages < 2 ^ 31 }
@@ -501,15 +518,9 @@ fn end_empty<D: PageDisk>(
     ensures closed { D.writing disk.new ≡ None }
     ensures agrees { IfSome (D.changes disk.new) (Agrees files.new.pages) }
 {
-    match files.finish_job(job, shares, disk) {
-        Ok(_) => Err(Fail::new("a page job")),
-        Err(JobFault::Failed(_)) => Err(Fail::new("a page job")),
-        Err(JobFault::NoMemory) => Err(Fail::new("no memory")),
-        Err(JobFault::NoJob) => {
-            let end = files.finish_compact(job, shares, disk);
-            Ok((Ended::JobFault(JobFault::NoJob), move_ended(&end, &[])))
-        }
-    }
+    let as_job = end_as_page_job(files, job, shares, disk);
+    let end = files.finish_compact(job, shares, disk);
+    (as_job, move_ended(&end, &[]))
 }
 
 // The piece 0 of page 0 is reached no more while it is moved.
@@ -519,7 +530,7 @@ fn empty_first<D: PageDisk>(
     first: usize,
     shares: &mut Shares,
     disk: &mut D,
-) -> Result<EmptyRun, Fail>
+) -> EmptyRun
     requires closed { D.writing disk.old ≡ None }
     requires agrees { IfSome (D.changes disk.old) (Agrees files.old.pages) }
     requires paged { files.old.pages ≡ page_of_first first }
@@ -531,10 +542,10 @@ fn empty_first<D: PageDisk>(
     let charged = files.charged();
     let due = files.remove_due(disk);
     let flight = files.in_flight();
-    let (as_job, as_move) = end_empty(files, job, shares, disk)?;
+    let (as_job, as_move) = end_empty(files, job, shares, disk);
     let last = look(files);
     let closed = files.close(disk);
-    Ok(EmptyRun {
+    EmptyRun {
         charged,
         due,
         flight,
@@ -542,7 +553,7 @@ fn empty_first<D: PageDisk>(
         as_move,
         last,
         closed,
-    })
+    }
 }
 
 // The piece 1 of page 0 is reached no more, and the move of piece 0 is started.
@@ -561,7 +572,7 @@ fn start_empty<D: PageDisk>(
     let Some((job, _)) = start_first(files, slots.0)? else {
         return Err(Fail::new("not thin"));
     };
-    empty_first(files, job, slots.0, shares, disk)
+    Ok(empty_first(files, job, slots.0, shares, disk))
 }
 
 fn row_empty_move<D: PageDisk>(heap: Global, disk: &mut D) -> Result<EmptyRun, Fail>

@@ -1,6 +1,6 @@
 ghost use Rattle.std.specs.Prelude.{◌≡◌, ◌+◌, [], None, map, IfOk, IfSome};
 ghost use Rattle.std.specs.List.{AllByRecursion};
-ghost use Rattle.page_files.specs.Files.{left_of, new_files, with_job, Agrees};
+ghost use Rattle.page_files.specs.Files.{left_of, new_files, Agrees};
 ghost use Rattle.page_files.specs.Items.{IsMemoryIn};
 ghost use Rattle.page_files.specs.Pieces.{named};
 ghost use Rattle.pages_tests.specs.Bench.{IsRow};
