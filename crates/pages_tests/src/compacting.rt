@@ -1,17 +1,67 @@
-ghost use Rattle.std.specs.Prelude.{◌≡◌, ◌≤◌, [], None, IfSome};
-ghost use Rattle.page_files.specs.Files.{Agrees};
-ghost use Rattle.pages_tests.specs.Runs.{IsReady};
+ghost use Rattle.std.specs.Prelude.{◌≡◌, ◌<◌, ◌≤◌, ◌^◌, [], ◌∷◌, None, Some, length, IfOk, IfSome};
+ghost use Rattle.std.specs.List.{AllByRecursion};
+ghost use Rattle.page_disk.specs.Changes.{HasRange};
+ghost use Rattle.page_files.specs.Items.{IsMemoryIn, IsPagedIn};
+ghost use Rattle.page_files.specs.Files.{new_files, page_no, source_of, with_job, Agrees};
+ghost use Rattle.pages_tests.specs.Bench.{both_held, first_held, page_of_both, page_of_first};
 
-use crate::fixture::{Ended, Place, Standing, add_two, job_ended, look, move_ended, place_of};
+use crate::bench::{fresh_files, is_memory, is_paged};
+use crate::fixture::{Ended, Place, Standing, add_memory, job_ended, look, move_ended, place_of};
 use crate::tell::{Told, is_settled, memory_disk, puts, removes, tears, tell};
-use blob_words::{JobNo, PageNo, PieceNo};
+use blob_words::{JobNo, NoMemory, PageNo, PieceNo};
 use item_shares::Shares;
 use page_disk::{FolderDisk, PageDisk};
-use page_files::{Closed, JobEnd, JobFault, MoveFault, PageFiles};
+use page_files::{Closed, JobEnd, JobFault, MoveEnd, MoveFault, PageFiles};
 use std::alloc::Global;
 use std::fs;
 use std::process::Abort;
 use std::test::Fail;
+
+// Puts the piece 0, of one byte, and the piece 1, of six, into memory.
+fn add_both(heap: Global, shares: &mut Shares) -> Result<(usize, usize), Fail>
+    ensures { IfOk result (λ slots.
+        AllByRecursion (IsMemoryIn shares.new) (both_held slots.0 slots.1)) }
+{
+    let first = add_memory(heap, shares, PieceNo(0), b"\x01")?;
+    let second = add_memory(heap, shares, PieceNo(1), b"\x02\x03\x04\x05\x06\x07")?;
+    if !is_memory(shares, first, PieceNo(0), 1) || !is_memory(shares, second, PieceNo(1), 6) {
+        return Err(Fail::new("not in memory"));
+    }
+    Ok((first, second))
+}
+
+// Starts the first job, of both pieces.
+fn start_both(files: &mut PageFiles, first: usize, second: usize) -> Result<JobNo, NoMemory>
+    requires fresh { files.old ≡ new_files files.old.limit }
+    requires enough { 7 ≤ files.old.limit }
+    ensures { IfOk result (λ _.
+        files.new ≡ with_job None (both_held first second) (new_files files.old.limit)) }
+{
+    files.start_job(&[(PieceNo(0), first, 1), (PieceNo(1), second, 6)])
+}
+
+// Writes both pieces to page 0.
+#[tactic(auto, using(crate::proofs::Moves::both_paged, crate::proofs::Moves::both_counted, crate::proofs::Moves::both_there))]
+fn finish_both<D: PageDisk>(
+    files: &mut PageFiles,
+    job: JobNo,
+    slots: (usize, usize),
+    shares: &mut Shares,
+    disk: &mut D,
+) -> Result<JobEnd, JobFault>
+    requires closed { D.writing disk.old ≡ None }
+    requires fresh { IfSome (D.changes disk.old) (λ changes. changes ≡ []) }
+    requires agrees { IfSome (D.changes disk.old) (Agrees []) }
+    requires started { files.old ≡ with_job None (both_held slots.0 slots.1) (new_files files.old.limit) }
+    requires items { AllByRecursion (IsMemoryIn shares.old) (both_held slots.0 slots.1) }
+    ensures closed { D.writing disk.new ≡ None }
+    ensures agrees { IfSome (D.changes disk.new) (Agrees files.new.pages) }
+    ensures paged { IfOk result (λ _. files.new.pages ≡ page_of_both slots.0 slots.1) }
+    ensures there { IfOk result (λ _. IfSome (D.changes disk.new) (HasRange 0 0 1)) }
+    ensures jobs { IfOk result (λ _. files.new.jobs ≡ 1) }
+{
+    files.finish_job(job, shares, disk)
+}
 
 // What the move of a page shows.
 #[derive(Clone, Copy, Debug, PartialEq, Eq)]
@@ -24,6 +74,17 @@ struct MoveRun {
     ended: Ended,
 }
 
+// What is left to the end.
+#[derive(Clone, Copy, Debug, PartialEq, Eq)]
+struct Rest {
+    standing: Standing,
+    // Where the piece 0 is.
+    place: Place,
+    due: Option<(PageNo, bool)>,
+    next: Option<(PageNo, bool)>,
+    closed: Closed,
+}
+
 // What the page of two pieces shows, of which one is reached no more and the other is moved.
 #[derive(Clone, Copy, Debug, PartialEq, Eq)]
 struct CompactRun {
@@ -31,11 +92,7 @@ struct CompactRun {
     standing: Standing,
     before: Option<PageNo>,
     moved: MoveRun,
-    after: Standing,
-    place: Place,
-    due: Option<(PageNo, bool)>,
-    next: Option<(PageNo, bool)>,
-    closed: Closed,
+    rest: Rest,
 }
 
 // Where there is nothing to move.
@@ -49,40 +106,163 @@ fn no_move() -> MoveRun {
     }
 }
 
-// Moves the least thin page, whose pieces are these, where there is one.
-fn compact<D: PageDisk>(
+// Starts the move of page 0, where it is the least thin page, to move the piece 0. Gives the job
+// and whether that piece was named.
+fn start_first(files: &mut PageFiles, first: usize) -> Result<Option<(JobNo, bool)>, NoMemory>
+    requires paged { files.old.pages ≡ page_of_first first }
+    requires jobs { files.old.jobs ≡ 1 }
+    ensures pages { files.new.pages ≡ files.old.pages }
+    ensures started { IfOk result (λ some. IfSome some (λ started. files.new.job
+        ≡ Some (record { number = started.0; source = Some (page_no 0); pieces = first_held first ∷ [] }))) }
+{
+    if files.in_flight().is_some() || !files.paging() {
+        return Ok(None);
+    }
+    if files.thin() != Some(PageNo(0)) {
+        return Ok(None);
+    }
+    let (job, named) = files.start_compact(PageNo(0))?;
+    Ok(Some((job, named.as_slice() == [PieceNo(0)].as_slice())))
+}
+
+// Moves the piece 0 out of page 0.
+fn finish_first<D: PageDisk>(
     files: &mut PageFiles,
+    job: JobNo,
+    first: usize,
     shares: &mut Shares,
     disk: &mut D,
-    pieces: &[PieceNo],
-) -> Result<MoveRun, Fail>
+) -> Result<MoveEnd, MoveFault>
     requires closed { D.writing disk.old ≡ None }
     requires agrees { IfSome (D.changes disk.old) (Agrees files.old.pages) }
-    requires ready { IsReady files.old shares.old (D.changes disk.old) }
+    requires paged { files.old.pages ≡ page_of_first first }
+    requires started { files.old.job
+        ≡ Some (record { number = job; source = Some (page_no 0); pieces = first_held first ∷ [] }) }
+    requires item { IsPagedIn (page_no 0) shares.old (first_held first) }
+    requires there { IfSome (D.changes disk.old) (HasRange 0 0 1) }
     ensures closed { D.writing disk.new ≡ None }
     ensures agrees { IfSome (D.changes disk.new) (Agrees files.new.pages) }
 {
-    if files.in_flight().is_some() {
-        return Ok(no_move());
+    files.finish_compact(job, shares, disk)
+}
+
+// Moves page 0, whose only piece is the piece 0, where it is thin.
+fn move_first<D: PageDisk>(
+    files: &mut PageFiles,
+    first: usize,
+    shares: &mut Shares,
+    disk: &mut D,
+) -> Result<MoveRun, Fail>
+    requires closed { D.writing disk.old ≡ None }
+    requires agrees { IfSome (D.changes disk.old) (Agrees files.old.pages) }
+    requires paged { files.old.pages ≡ page_of_first first }
+    requires jobs { files.old.jobs ≡ 1 }
+    requires there { IfSome (D.changes disk.old) (HasRange 0 0 1) }
+    ensures closed { D.writing disk.new ≡ None }
+    ensures agrees { IfSome (D.changes disk.new) (Agrees files.new.pages) }
+{
+    if !is_paged(shares, first, PageNo(0), PieceNo(0), 1) {
+        return Err(Fail::new("not in page 0"));
     }
-    if !files.paging() {
-        return Ok(no_move());
-    }
-    let Some(page) = files.thin() else {
+    let Some((job, is_named)) = start_first(files, first)? else {
         return Ok(no_move());
     };
-    let (job, named) = files.start_compact(page)?;
-    let is_named = named.as_slice() == pieces;
     let charged = files.charged();
     let compacting = files.compacting();
-    let end = files.finish_compact(job, shares, disk);
-    let ended = move_ended(&end, pieces);
+    let end = finish_first(files, job, first, shares, disk);
     Ok(MoveRun {
         job: Some(job),
         is_named,
         charged,
         compacting,
-        ended,
+        ended: move_ended(&end, &[PieceNo(0)]),
+    })
+}
+
+// Moves page 0 once the piece 1 is reached no more.
+fn thin_out<D: PageDisk>(
+    files: &mut PageFiles,
+    slots: (usize, usize),
+    shares: &mut Shares,
+    disk: &mut D,
+) -> Result<MoveRun, Fail>
+    requires closed { D.writing disk.old ≡ None }
+    requires agrees { IfSome (D.changes disk.old) (Agrees files.old.pages) }
+    requires paged { files.old.pages ≡ page_of_both slots.0 slots.1 }
+    requires jobs { files.old.jobs ≡ 1 }
+    requires there { IfSome (D.changes disk.old) (HasRange 0 0 1) }
+    ensures closed { D.writing disk.new ≡ None }
+    ensures agrees { IfSome (D.changes disk.new) (Agrees files.new.pages) }
+{
+    files.release_piece(PageNo(0), PieceNo(1));
+    move_first(files, slots.0, shares, disk)
+}
+
+// Moves page 0 in the end, where it was written.
+fn move_written<D: PageDisk>(
+    end: &Result<JobEnd, JobFault>,
+    files: &mut PageFiles,
+    slots: (usize, usize),
+    shares: &mut Shares,
+    disk: &mut D,
+) -> Result<MoveRun, Fail>
+    requires closed { D.writing disk.old ≡ None }
+    requires agrees { IfSome (D.changes disk.old) (Agrees files.old.pages) }
+    requires paged { IfOk end.now (λ _. files.old.pages ≡ page_of_both slots.0 slots.1) }
+    requires jobs { IfOk end.now (λ _. files.old.jobs ≡ 1) }
+    requires there { IfOk end.now (λ _. IfSome (D.changes disk.old) (HasRange 0 0 1)) }
+    ensures closed { D.writing disk.new ≡ None }
+    ensures agrees { IfSome (D.changes disk.new) (Agrees files.new.pages) }
+{
+    match end {
+        Ok(_) => thin_out(files, slots, shares, disk),
+        Err(_) => Ok(no_move()),
+    }
+}
+
+// What is left to the end.
+fn see_rest<D: PageDisk>(files: &mut PageFiles, shares: &Shares, first: usize, disk: &mut D) -> Rest
+    requires closed { D.writing disk.old ≡ None }
+    requires agrees { IfSome (D.changes disk.old) (Agrees files.old.pages) }
+{
+    let standing = look(files);
+    let due = files.remove_due(disk);
+    let next = files.remove_due(disk);
+    let closed = files.close(disk);
+    Rest {
+        standing,
+        place: place_of(shares, first),
+        due,
+        next,
+        closed,
+    }
+}
+
+// Writes page 0, moves it, and ends.
+fn run_both<D: PageDisk>(
+    files: &mut PageFiles,
+    job: JobNo,
+    slots: (usize, usize),
+    shares: &mut Shares,
+    disk: &mut D,
+) -> Result<CompactRun, Fail>
+    requires closed { D.writing disk.old ≡ None }
+    requires fresh { IfSome (D.changes disk.old) (λ changes. changes ≡ []) }
+    requires agrees { IfSome (D.changes disk.old) (Agrees []) }
+    requires started { files.old ≡ with_job None (both_held slots.0 slots.1) (new_files files.old.limit) }
+    requires items { AllByRecursion (IsMemoryIn shares.old) (both_held slots.0 slots.1) }
+{
+    let end = finish_both(files, job, slots, shares, disk);
+    let standing = look(files);
+    let before = files.thin();
+    let moved = move_written(&end, files, slots, shares, disk)?;
+    let rest = see_rest(files, shares, slots.0, disk);
+    Ok(CompactRun {
+        paged: job_ended(&end, &[PieceNo(0), PieceNo(1)]),
+        standing,
+        before,
+        moved,
+        rest,
     })
 }
 
@@ -91,32 +271,11 @@ fn row_compact<D: PageDisk>(heap: Global, limit: u64, disk: &mut D) -> Result<Co
     requires closed { D.writing disk.old ≡ None }
     requires fresh { IfSome (D.changes disk.old) (λ changes. changes ≡ []) }
 {
-    let mut files = PageFiles::new(heap, limit)?;
+    let mut files = fresh_files(heap, limit, disk)?;
     let mut shares = Shares::new(heap)?;
-    let (first, second) = add_two(heap, &mut shares, b"\x01", b"\x02\x03\x04\x05\x06\x07")?;
-    let job = files.start_job(&[(PieceNo(0), first, 1), (PieceNo(1), second, 6)])?;
-    let end = files.finish_job(job, &mut shares, disk);
-    let paged = job_ended(&end, &[PieceNo(0), PieceNo(1)]);
-    let standing = look(&files);
-    let before = files.thin();
-    files.release_piece(PageNo(0), PieceNo(1));
-    let moved = compact(&mut files, &mut shares, disk, &[PieceNo(0)])?;
-    let after = look(&files);
-    let place = place_of(&shares, first);
-    let due = files.remove_due(disk);
-    let next = files.remove_due(disk);
-    let closed = files.close(disk);
-    Ok(CompactRun {
-        paged,
-        standing,
-        before,
-        moved,
-        after,
-        place,
-        due,
-        next,
-        closed,
-    })
+    let slots = add_both(heap, &mut shares)?;
+    let job = start_both(&mut files, slots.0, slots.1)?;
+    run_both(&mut files, job, slots, &mut shares, disk)
 }
 
 fn standing(charged: u64, files: u32, paging: bool) -> Standing {
@@ -143,14 +302,10 @@ fn closes(removed: u32, left: u32) -> Closed {
     Closed { removed, left }
 }
 
-// What it shows where nothing fails.
-fn well() -> CompactRun {
-    CompactRun {
-        paged: Ended::Wrote(PageNo(0)),
-        standing: standing(7, 1, true),
-        before: None,
-        moved: moves(Ended::Wrote(PageNo(1))),
-        after: standing(1, 1, true),
+// What it shows in the end where nothing fails.
+fn moved_rest() -> Rest {
+    Rest {
+        standing: standing(1, 1, true),
         place: Place::Paged(PageNo(1), 0, 1),
         due: Some((PageNo(0), true)),
         next: None,
@@ -158,14 +313,28 @@ fn well() -> CompactRun {
     }
 }
 
+// What it shows where nothing fails.
+fn well() -> CompactRun {
+    CompactRun {
+        paged: Ended::Wrote(PageNo(0)),
+        standing: standing(7, 1, true),
+        before: None,
+        moved: moves(Ended::Wrote(PageNo(1))),
+        rest: moved_rest(),
+    }
+}
+
 // What it shows where the move does not end well, and so many pages are removed at the end.
 fn stays(moved: MoveRun, paging: bool, removed: u32) -> CompactRun {
     CompactRun {
         moved,
-        after: standing(7, 1, paging),
-        place: Place::Paged(PageNo(0), 0, 1),
-        due: None,
-        closed: closes(removed, 0),
+        rest: Rest {
+            standing: standing(7, 1, paging),
+            place: Place::Paged(PageNo(0), 0, 1),
+            due: None,
+            next: None,
+            closed: closes(removed, 0),
+        },
         ..well()
     }
 }
@@ -175,9 +344,15 @@ fn unwritten() -> CompactRun {
     CompactRun {
         paged: Ended::JobFault(JobFault::Failed(PageNo(0))),
         standing: standing(0, 0, false),
-        after: standing(0, 0, false),
-        place: Place::Memory,
-        ..stays(no_move(), false, 1)
+        before: None,
+        moved: no_move(),
+        rest: Rest {
+            standing: standing(0, 0, false),
+            place: Place::Memory,
+            due: None,
+            next: None,
+            closed: closes(1, 0),
+        },
     }
 }
 
@@ -279,11 +454,17 @@ fn the_page_to_be_moved_may_be_torn(rt: HostRuntime) -> Result<(), Fail> {
 fn pages_of_a_move_may_be_left(rt: HostRuntime) -> Result<(), Fail> {
     let heap = rt.alloc();
     let old = CompactRun {
-        due: Some((PageNo(0), false)),
+        rest: Rest {
+            due: Some((PageNo(0), false)),
+            ..moved_rest()
+        },
         ..well()
     };
     let new = CompactRun {
-        closed: closes(0, 1),
+        rest: Rest {
+            closed: closes(0, 1),
+            ..moved_rest()
+        },
         ..well()
     };
     check(&rt, heap, &[3], &[], old, told(2, 0, 1, 1))?;
@@ -302,34 +483,69 @@ struct EmptyRun {
     closed: Closed,
 }
 
-fn row_empty_move<D: PageDisk>(heap: Global, disk: &mut D) -> Result<EmptyRun, Fail>
+// Ends a compact job as if it were a page job, which changes nothing.
+#[tactic(auto, using(crate::proofs::Moves::no_page_job))]
+fn end_as_page_job<D: PageDisk>(
+    files: &mut PageFiles,
+    job: JobNo,
+    shares: &mut Shares,
+    disk: &mut D,
+) -> Ended
     requires closed { D.writing disk.old ≡ None }
-    requires fresh { IfSome (D.changes disk.old) (λ changes. changes ≡ []) }
+    requires agrees { IfSome (D.changes disk.old) (Agrees files.old.pages) }
+    requires few { length files.old.pages < 2 ^ 31 }
+    requires moves { source_of files.old.job ≡ Some (page_no 0) }
+    ensures closed { D.writing disk.new ≡ None }
+    ensures agrees { IfSome (D.changes disk.new) (Agrees files.new.pages) }
+    ensures same { files.new ≡ files.old }
 {
-    let mut files = PageFiles::new(heap, 64)?;
-    let mut shares = Shares::new(heap)?;
-    let (first, second) = add_two(heap, &mut shares, b"\x01", b"\x02\x03\x04\x05\x06\x07")?;
-    let job = files.start_job(&[(PieceNo(0), first, 1), (PieceNo(1), second, 6)])?;
-    let Ok(JobEnd::Paged(_, _)) = files.finish_job(job, &mut shares, disk) else {
-        return Err(Fail::new("not paged"));
-    };
-    files.release_piece(PageNo(0), PieceNo(1));
-    let Some(page) = files.thin() else {
-        return Err(Fail::new("not thin"));
-    };
-    let (job, _) = files.start_compact(page)?;
+    let end = files.finish_job(job, shares, disk);
+    job_ended(&end, &[])
+}
+
+// Ends the move of page 0 of which no piece is left, first as a page job.
+fn end_empty<D: PageDisk>(
+    files: &mut PageFiles,
+    job: JobNo,
+    shares: &mut Shares,
+    disk: &mut D,
+) -> (Ended, Ended)
+    requires closed { D.writing disk.old ≡ None }
+    requires agrees { IfSome (D.changes disk.old) (Agrees files.old.pages) }
+    requires few { length files.old.pages < 2 ^ 31 }
+    requires empty { files.old.job
+        ≡ Some (record { number = job; source = Some (page_no 0); pieces = [] }) }
+    ensures closed { D.writing disk.new ≡ None }
+    ensures agrees { IfSome (D.changes disk.new) (Agrees files.new.pages) }
+{
+    let as_job = end_as_page_job(files, job, shares, disk);
+    let end = files.finish_compact(job, shares, disk);
+    (as_job, move_ended(&end, &[]))
+}
+
+// The piece 0 of page 0 is reached no more while it is moved.
+fn empty_first<D: PageDisk>(
+    files: &mut PageFiles,
+    job: JobNo,
+    first: usize,
+    shares: &mut Shares,
+    disk: &mut D,
+) -> EmptyRun
+    requires closed { D.writing disk.old ≡ None }
+    requires agrees { IfSome (D.changes disk.old) (Agrees files.old.pages) }
+    requires paged { files.old.pages ≡ page_of_first first }
+    requires started { files.old.job
+        ≡ Some (record { number = job; source = Some (page_no 0); pieces = first_held first ∷ [] }) }
+{
     files.release_piece(PageNo(0), PieceNo(0));
     files.strike(PieceNo(0));
     let charged = files.charged();
     let due = files.remove_due(disk);
     let flight = files.in_flight();
-    let end = files.finish_job(job, &mut shares, disk);
-    let as_job = job_ended(&end, &[]);
-    let end = files.finish_compact(job, &mut shares, disk);
-    let as_move = move_ended(&end, &[]);
-    let last = look(&files);
+    let (as_job, as_move) = end_empty(files, job, shares, disk);
+    let last = look(files);
     let closed = files.close(disk);
-    Ok(EmptyRun {
+    EmptyRun {
         charged,
         due,
         flight,
@@ -337,7 +553,40 @@ fn row_empty_move<D: PageDisk>(heap: Global, disk: &mut D) -> Result<EmptyRun, F
         as_move,
         last,
         closed,
-    })
+    }
+}
+
+// The piece 1 of page 0 is reached no more, and the move of piece 0 is started.
+fn start_empty<D: PageDisk>(
+    files: &mut PageFiles,
+    slots: (usize, usize),
+    shares: &mut Shares,
+    disk: &mut D,
+) -> Result<EmptyRun, Fail>
+    requires closed { D.writing disk.old ≡ None }
+    requires agrees { IfSome (D.changes disk.old) (Agrees files.old.pages) }
+    requires paged { files.old.pages ≡ page_of_both slots.0 slots.1 }
+    requires jobs { files.old.jobs ≡ 1 }
+{
+    files.release_piece(PageNo(0), PieceNo(1));
+    let Some((job, _)) = start_first(files, slots.0)? else {
+        return Err(Fail::new("not thin"));
+    };
+    Ok(empty_first(files, job, slots.0, shares, disk))
+}
+
+fn row_empty_move<D: PageDisk>(heap: Global, disk: &mut D) -> Result<EmptyRun, Fail>
+    requires closed { D.writing disk.old ≡ None }
+    requires fresh { IfSome (D.changes disk.old) (λ changes. changes ≡ []) }
+{
+    let mut files = fresh_files(heap, 64, disk)?;
+    let mut shares = Shares::new(heap)?;
+    let slots = add_both(heap, &mut shares)?;
+    let job = start_both(&mut files, slots.0, slots.1)?;
+    match finish_both(&mut files, job, slots, &mut shares, disk) {
+        Ok(_) => start_empty(&mut files, slots, &mut shares, disk),
+        Err(_) => Err(Fail::new("not paged")),
+    }
 }
 
 #[test]

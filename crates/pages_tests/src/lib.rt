@@ -2,11 +2,19 @@
 #![tactic(auto)]
 
 #[cfg(test)]
+mod bench;
+#[cfg(test)]
+mod compacting;
+#[cfg(test)]
 mod fixture;
 #[cfg(test)]
 mod jobs;
 #[cfg(test)]
 mod long_page;
+#[cfg(test)]
+mod many_pages;
+#[cfg(test)]
+mod many_pieces;
 #[cfg(test)]
 mod reserves;
 #[cfg(test)]

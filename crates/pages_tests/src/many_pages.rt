@@ -1,8 +1,8 @@
 ghost use Rattle.std.specs.Prelude.{◌≡◌, ◌+◌, ◌<◌, [], None, length, IfOk, IfSome};
 ghost use Rattle.page_files.specs.Files.{Agrees};
 
+use crate::bench::{fresh_files, store};
 use crate::fixture::add_reserved;
-use crate::stores::store;
 use crate::tell::{memory_disk, tell};
 use blob_words::{PageNo, PieceNo};
 use item_shares::Shares;
@@ -104,7 +104,7 @@ fn row_many_pages<D: PageDisk>(heap: Global, disk: &mut D) -> Result<ManyRun, Fa
     requires closed { D.writing disk.old ≡ None }
     requires fresh { IfSome (D.changes disk.old) (λ changes. changes ≡ []) }
 {
-    let mut files = PageFiles::new(heap, 65_536)?;
+    let mut files = fresh_files(heap, 65_536, disk)?;
     let mut shares = Shares::new(heap)?;
     store_all(&mut files, &mut shares, disk)?;
     let charged = files.charged();

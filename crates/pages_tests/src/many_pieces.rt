@@ -1,12 +1,14 @@
-ghost use Rattle.std.specs.Prelude.{◌≡◌, ◌+◌, [], None, IfOk, IfSome};
+ghost use Rattle.std.specs.Prelude.{◌≡◌, ◌+◌, [], None, map, IfOk, IfSome};
 ghost use Rattle.std.specs.List.{AllByRecursion};
-ghost use Rattle.page_files.specs.Files.{left_of};
+ghost use Rattle.page_files.specs.Files.{left_of, new_files, Agrees};
 ghost use Rattle.page_files.specs.Items.{IsMemoryIn};
-ghost use Rattle.pages_tests.specs.Runs.{IsRow};
+ghost use Rattle.page_files.specs.Pieces.{named};
+ghost use Rattle.pages_tests.specs.Bench.{IsRow};
 
+use crate::bench::fresh_files;
 use crate::fixture::{Place, Standing, add_memory, look, place_of};
 use crate::tell::memory_disk;
-use blob_words::{PageNo, PieceNo};
+use blob_words::{JobNo, NoMemory, PageNo, PieceNo};
 use item_shares::Shares;
 use page_disk::{Change, MemoryDisk, PageDisk};
 use page_files::{Closed, JobEnd, JobFault, PageFiles};
@@ -44,7 +46,6 @@ fn add_one(
 
 // Puts 65,536 pieces, of one byte each, into memory.
 fn add_many(heap: Global, shares: &mut Shares) -> Result<Vec<(PieceNo, usize, u64)>, Fail>
-    requires none { shares.old ≡ [] }
     ensures row { IfOk result (λ pieces. IsRow 65536 shares.new pieces.items) }
 {
     let mut pieces = Vec::new(heap);
@@ -52,6 +53,20 @@ fn add_many(heap: Global, shares: &mut Shares) -> Result<Vec<(PieceNo, usize, u6
         add_one(heap, shares, &mut pieces, number)?;
     }
     Ok(pieces)
+}
+
+// Starts a job of 65,536 pieces.
+fn start_row(
+    files: &mut PageFiles,
+    pieces: &[(PieceNo, usize, u64)],
+    shares: &Shares,
+) -> Result<JobNo, NoMemory>
+    requires fresh { files.old ≡ new_files 65536 }
+    requires row { IsRow 65536 shares.now pieces.now }
+    ensures pages { files.new.pages ≡ [] }
+    ensures items { IfOk result (λ _. AllByRecursion (IsMemoryIn shares.now) (left_of files.new.job)) }
+{
+    files.start_job(pieces)
 }
 
 // Strikes every second of 65,536 pieces.
@@ -82,32 +97,47 @@ fn slot_at(pieces: &[(PieceNo, usize, u64)], place: usize) -> Result<usize, Fail
     Ok(*slot)
 }
 
+// Strikes every second piece, and ends the job.
+fn end_row<D: PageDisk>(
+    files: &mut PageFiles,
+    job: JobNo,
+    slots: (usize, usize),
+    shares: &mut Shares,
+    disk: &mut D,
+) -> ManyRun
+    requires closed { D.writing disk.old ≡ None }
+    requires agrees { IfSome (D.changes disk.old) (Agrees []) }
+    requires pages { files.old.pages ≡ [] }
+    requires items { AllByRecursion (IsMemoryIn shares.old) (left_of files.old.job) }
+{
+    let charged = files.charged();
+    strike_many(files, shares);
+    let struck = files.charged();
+    let end = files.finish_job(job, shares, disk);
+    let standing = look(files);
+    let places = (place_of(shares, slots.0), place_of(shares, slots.1));
+    let closed = files.close(disk);
+    ManyRun {
+        charged,
+        struck,
+        paged: counted(&end),
+        standing,
+        places,
+        closed,
+    }
+}
+
 fn row_many_pieces<D: PageDisk>(heap: Global, disk: &mut D) -> Result<ManyRun, Fail>
     requires closed { D.writing disk.old ≡ None }
     requires fresh { IfSome (D.changes disk.old) (λ changes. changes ≡ []) }
 {
-    let mut files = PageFiles::new(heap, 65_536)?;
+    let mut files = fresh_files(heap, 65_536, disk)?;
     let mut shares = Shares::new(heap)?;
     let pieces = add_many(heap, &mut shares)?;
     let kept = slot_at(pieces.as_slice(), 65_534)?;
-    let struck_slot = slot_at(pieces.as_slice(), 65_535)?;
-    let job = files.start_job(pieces.as_slice())?;
-    let charged = files.charged();
-    strike_many(&mut files, &shares);
-    let struck = files.charged();
-    let end = files.finish_job(job, &mut shares, disk);
-    let paged = counted(&end);
-    let standing = look(&files);
-    let places = (place_of(&shares, kept), place_of(&shares, struck_slot));
-    let closed = files.close(disk);
-    Ok(ManyRun {
-        charged,
-        struck,
-        paged,
-        standing,
-        places,
-        closed,
-    })
+    let struck = slot_at(pieces.as_slice(), 65_535)?;
+    let job = start_row(&mut files, pieces.as_slice(), &shares)?;
+    Ok(end_row(&mut files, job, (kept, struck), &mut shares, disk))
 }
 
 // Whether the first change puts every second byte.
