@@ -41,7 +41,6 @@ fn start_both(files: &mut PageFiles, first: usize, second: usize) -> Result<JobN
 }
 
 // Writes both pieces to page 0.
-#[tactic(auto, using(crate::proofs::Moves::both_paged, crate::proofs::Moves::both_counted, crate::proofs::Moves::both_there))]
 fn finish_both<D: PageDisk>(
     files: &mut PageFiles,
     job: JobNo,
