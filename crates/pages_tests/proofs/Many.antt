@@ -19,7 +19,8 @@ use Rattle.page_files.specs.Items.{IsMemoryIn, IsMemoryOf}
 use Rattle.page_files.specs.Files.{left_of, struck, Agrees}
 use Rattle.page_files.proofs.Lists.{all_then}
 use Rattle.page_files.proofs.Pages.{all_push}
-use Rattle.pages_tests.specs.Bench.{piece_no, IsRow}
+use Rattle.pages_tests.specs.Moves.{IsRow}
+use Rattle.pages_tests.specs.Runs.{piece_no}
 
 -- no pages agree with no changes
 pub agrees_none : Agrees [] []

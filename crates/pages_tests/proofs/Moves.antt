@@ -23,7 +23,7 @@ use Rattle.page_files.specs.Items.{bytes_in, item_bytes, IsMemoryIn, IsMemoryOf}
 use Rattle.page_files.specs.Pieces.{bytes_of, placed}
 use Rattle.page_files.specs.Files.{Files, is_in_flight, page_no, source_of, left_of, new_files, with_job, with_page, without_job}
 use Rattle.page_files.specs.Ends.{Scene, JobEnds}
-use Rattle.pages_tests.specs.Bench.{both_held, first_held, second_held, page_of_both}
+use Rattle.pages_tests.specs.Moves.{both_held, first_held, second_held, page_of_both}
 
 pub both_apart : IsDistinct nat_eq (0 ∷ 1 ∷ [])
 unfolding IsDistinct

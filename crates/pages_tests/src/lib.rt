@@ -2,9 +2,11 @@
 #![tactic(auto)]
 
 #[cfg(test)]
-mod bench;
+mod calls;
 #[cfg(test)]
 mod compacting;
+#[cfg(test)]
+mod empty_moves;
 #[cfg(test)]
 mod fixture;
 #[cfg(test)]

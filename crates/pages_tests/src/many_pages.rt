@@ -1,7 +1,7 @@
 ghost use Rattle.std.specs.Prelude.{◌≡◌, ◌+◌, ◌<◌, [], None, length, IfOk, IfSome};
 ghost use Rattle.page_files.specs.Files.{Agrees};
 
-use crate::bench::{fresh_files, store};
+use crate::calls::{fresh_files, store};
 use crate::fixture::add_reserved;
 use crate::tell::{memory_disk, tell};
 use blob_words::{PageNo, PieceNo};

@@ -3,9 +3,9 @@ ghost use Rattle.std.specs.List.{AllByRecursion};
 ghost use Rattle.page_files.specs.Files.{left_of, new_files, Agrees};
 ghost use Rattle.page_files.specs.Items.{IsMemoryIn};
 ghost use Rattle.page_files.specs.Pieces.{named};
-ghost use Rattle.pages_tests.specs.Bench.{IsRow};
+ghost use Rattle.pages_tests.specs.Moves.{IsRow};
 
-use crate::bench::fresh_files;
+use crate::calls::fresh_files;
 use crate::fixture::{Place, Standing, add_memory, look, place_of};
 use crate::tell::memory_disk;
 use blob_words::{JobNo, NoMemory, PageNo, PieceNo};

@@ -1,5 +1,5 @@
 use Rattle.std.proofs.Common.{subst, sym}
-use Rattle.pages_tests.specs.Bench.{IsRow}
+use Rattle.pages_tests.specs.Moves.{IsRow}
 use Rattle.pages_tests.proofs.Many.{row_none}
 use Rattle.pages_tests.proofs.many_pieces.add_many.Goals as goal
 

@@ -1,4 +1,4 @@
-use Rattle.pages_tests.specs.Bench.{IsRow}
+use Rattle.pages_tests.specs.Moves.{IsRow}
 use Rattle.pages_tests.proofs.many_pieces.add_many.Given as goal
 
 abbrev pub invariant-loop-number : goal.invariant-loop-number

@@ -1,5 +1,5 @@
 use Rattle.std.proofs.Common.{◌+◌, refl, subst, sym}
-use Rattle.pages_tests.specs.Bench.{IsRow}
+use Rattle.pages_tests.specs.Moves.{IsRow}
 use Rattle.pages_tests.proofs.Many.{row_push}
 use Rattle.pages_tests.proofs.many_pieces.add_one.Goals as goal
 

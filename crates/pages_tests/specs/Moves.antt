@@ -9,9 +9,7 @@ use Rattle.item_shares.specs.declared.shares.Share.{Share}
 use Rattle.page_files.specs.Files.{alone}
 use Rattle.page_files.specs.Items.{IsMemoryIn}
 use Rattle.page_files.specs.Pieces.{named}
-
-abbrev pub piece_no : ℕ → PieceNo
-piece_no number = record { 0 = number }
+use Rattle.pages_tests.specs.Runs.{piece_no}
 
 -- the piece 0 of one byte
 abbrev pub first_held : ℕ → Held
