@@ -1,8 +1,11 @@
-//! Tests of the base crates: copies of names, shares, uses, the quota, plans, segments and views.
+//! Tests of the base crates: copies of names, shares, uses, the quota, plans, segments, views and the first
+//! number that is small enough.
 #![tactic(auto)]
 
 #[cfg(test)]
 mod copies;
+#[cfg(test)]
+mod fits;
 #[cfg(test)]
 mod plans;
 #[cfg(test)]
