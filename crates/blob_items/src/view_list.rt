@@ -1,4 +1,4 @@
-ghost use Rattle.std.specs.Prelude.{◌≡◌, ◌+◌, ◌-◌, ◌^◌, ◌≤◌, [], ◌∷◌, ◌++◌, length, take, drop, IfOk, OnOk, OnErr, MatchOption};
+ghost use Rattle.std.specs.Prelude.{◌≡◌, ◌+◌, ◌-◌, ◌^◌, ◌≤◌, [], ◌∷◌, ◌++◌, length, take, drop, IfOk, IfSome, OnOk, OnErr, MatchOption};
 ghost use Rattle.blob_items.specs.Cells.{cells, total, IsPlaceOf};
 
 use crate::starts::{begun, push_starts};
@@ -93,6 +93,35 @@ impl ViewList {
         }
         let place = begun(self.starts.as_slice(), off) - 1;
         Some((place, off - self.starts[place]))
+    }
+
+    // The place of the byte at `off` in the view at `place`, where it is there.
+    fn place_in(&self, place: usize, off: u64) -> Option<u64>
+        ensures { IfSome result (λ skipped. IsPlaceOf self.now off (place, skipped)) }
+    {
+        if place >= self.views.len() {
+            return None;
+        }
+        let start = self.starts[place];
+        let len = self.views[place].len;
+        if off < start || off - start >= len {
+            return None;
+        }
+        Some(off - start)
+    }
+
+    /// As `find`, by a look at the view at `near` and at the one behind it before a search.
+    pub fn find_near(&self, near: usize, off: u64) -> Option<(usize, u64)>
+        ensures { MatchOption result (total self.now ≤ off) (IsPlaceOf self.now off) }
+    {
+        if let Some(skipped) = self.place_in(near, off) {
+            return Some((near, skipped));
+        }
+        let next = near.saturating_add(1);
+        if let Some(skipped) = self.place_in(next, off) {
+            return Some((next, skipped));
+        }
+        self.find(off)
     }
 
     /// The `len` bytes from `off` on, as views of their own.

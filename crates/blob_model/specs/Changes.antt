@@ -33,24 +33,24 @@ numbered_bytes s h number = option_map_or (piece_bytes s h) (find (λ (piece : P
 abbrev pub list_bytes : Session → History → List ℕ → List ℕ
 list_bytes s h list = flat_map (numbered_bytes s h) list
 
--- the changes that an answer tells
-abbrev pub change_of : Session → History → Answer → List Change
-change_of s h (answers.Stored file piece) = put file.0 (numbered_bytes s h piece.0) ∷ []
-change_of s h (answers.StoreFailed file) = torn file.0 ∷ []
-change_of s h (answers.Paged job file list) = put file.0 (list_bytes s h (numbers list)) ∷ []
-change_of s h (answers.PageFailed job file) = torn file.0 ∷ []
-change_of s h (answers.Moved job file list) = put file.0 (list_bytes s h (numbers list)) ∷ []
-change_of s h (answers.MoveFailed job file) = torn file.0 ∷ []
-change_of s h (answers.Removed file) = remove file.0 ∷ []
-change_of s h (answers.Left file) = leave file.0 ∷ []
-change_of s h answer = []
+-- an answer adds the change that it tells
+abbrev pub changes_after : Session → History → Answer → List Change → List Change
+changes_after s h (answers.Stored file piece) before = before ++ put file.0 (numbered_bytes s h piece.0) ∷ []
+changes_after s h (answers.StoreFailed file) before = before ++ torn file.0 ∷ []
+changes_after s h (answers.Paged job file list) before = before ++ put file.0 (list_bytes s h (numbers list)) ∷ []
+changes_after s h (answers.PageFailed job file) before = before ++ torn file.0 ∷ []
+changes_after s h (answers.Moved job file list) before = before ++ put file.0 (list_bytes s h (numbers list)) ∷ []
+changes_after s h (answers.MoveFailed job file) before = before ++ torn file.0 ∷ []
+changes_after s h (answers.Removed file) before = before ++ remove file.0 ∷ []
+changes_after s h (answers.Left file) before = before ++ leave file.0 ∷ []
+changes_after s h answer before = before
 
 -- the changes of a history, in order
 abbrev pub changes : Session → History → List Change
 changes s start = []
-changes s (heard h event answer) = changes s h ++ change_of s h answer
+changes s (heard h event answer) = changes_after s h answer (changes s h)
 changes s (refused h event why) = changes s h
-changes s (said h answer) = changes s h ++ change_of s h answer
+changes s (said h answer) = changes_after s h answer (changes s h)
 
 -- a page file that was written, with or without success, and one that was asked to be removed
 abbrev pub written_page : Change → List ℕ

@@ -6,6 +6,7 @@ use Rattle.session_script.specs.declared.event.Event.TheVariants as events
 use Rattle.answer_text.specs.declared.answer.Answer.{Answer}
 use Rattle.answer_text.specs.declared.answer.Answer.TheVariants as answers
 use Rattle.answer_text.specs.declared.refusal.Refusal.{Refusal}
+use Rattle.blob_model.specs.Session.{Session}
 use Rattle.blob_model.specs.History.{History, heard, refused, said}
 use Rattle.blob_model.specs.Renderers.{spawned, is_dead}
 use Rattle.blob_model.specs.Recorded.{recorded, last_stamp, file_names, content}
@@ -17,6 +18,7 @@ use Rattle.blob_model.specs.Entries.{entries}
 use Rattle.blob_model.specs.Readers.{readers}
 use Rattle.blob_model.specs.Pages.{pages, next_page, asked}
 use Rattle.blob_model.specs.Jobs.{in_flight, next_job, paging, turns_off}
+use Rattle.blob_model.specs.Changes.{changes}
 use Rattle.blob_model.specs.Victims.{last_uses}
 
 -- a notion changes with these accepted lines, by their first answer, and with these further answers alone; a refused line changes nothing
@@ -119,6 +121,12 @@ is_removal (answers.Removed file) = true
 is_removal (answers.Left file) = true
 is_removal answer = false
 
+-- answers that tell of a change on the disk
+abbrev pub is_change : Answer → Bool
+is_change (answers.Removed file) = true
+is_change (answers.Left file) = true
+is_change answer = is_write answer
+
 -- answers that start a job, and that end one
 abbrev pub is_start : Answer → Bool
 is_start (answers.Job job list) = true
@@ -157,4 +165,5 @@ pub record ChangeLaws : Type 0 where
   pub flying : ChangesWith in_flight (by_first is_start_or_end) is_start_or_end
   pub job_numbers : ChangesWith next_job (by_first is_start) is_start
   pub pages_on : ChangesWith paging (by_first turns_off) never
+  pub disk_changes : (s : Session) → ChangesWith (changes s) (by_first is_change) is_change
   pub uses : (l : Limits) → ChangesWith (last_uses l) is_reading is_done_answer

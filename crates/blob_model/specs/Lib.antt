@@ -17,6 +17,7 @@ pub mod Jobs
 pub mod Tally
 pub mod Choice
 pub mod Waits
+pub mod Order
 pub mod Chunk
 pub mod Value
 pub mod Victims
@@ -53,4 +54,7 @@ pub mod WrongCompaction
 pub mod Laws
 pub mod LegalLaws
 pub mod BuildLaws
+pub mod PageLaws
+pub mod TotalLaws
+pub mod TextLaws
 pub mod SettledLaws

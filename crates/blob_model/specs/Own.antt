@@ -50,8 +50,8 @@ abbrev pub blob_at : History → ℕ → List ℕ → ℕ
 blob_at h renderer text = option_map_or (λ (entry : Entry). entry.blob) (resolved h renderer text) 0
 
 -- opening a reader tells the size and the content type of its blob
-abbrev pub opened : Session → History → ReaderId → ℕ → Answer
-opened s h reader b = answers.Opened reader (size_in (builds s.limits.page h) b) (kind_in (builds s.limits.page h) b)
+abbrev pub opened_answer : Session → History → ReaderId → ℕ → Answer
+opened_answer s h reader b = answers.Opened reader (size_in (builds s.limits.page h) b) (kind_in (builds s.limits.page h) b)
 
 -- the piece that a segment of a file plan brings: the one at its place among the blob's pieces
 abbrev pub piece_at : Session → History → ℕ → ℕ → ℕ
@@ -61,13 +61,13 @@ abbrev pub piece_no : ℕ → PieceNo
 piece_no number = record { 0 = number }
 
 -- a segment is taken; where the plan is file its piece is then written to the next page file, or the write fails
-abbrev pub stored : Session → History → ℕ → ℕ → Option Plan → List Answer
-stored s h b segment (Some (plans.File n)) = answers.Stored (page_no (next_page h)) (piece_no (piece_at s h b segment)) ∷ []
-stored s h b segment plan = []
+abbrev pub stored_answers : Session → History → ℕ → ℕ → Option Plan → List Answer
+stored_answers s h b segment (Some (plans.File n)) = answers.Stored (page_no (next_page h)) (piece_no (piece_at s h b segment)) ∷ []
+stored_answers s h b segment plan = []
 
-abbrev pub unstored : Session → History → ℕ → Option Plan → List (List Answer)
-unstored s h segment (Some (plans.File n)) = (answers.Taken segment ∷ answers.StoreFailed (page_no (next_page h)) ∷ []) ∷ []
-unstored s h segment plan = []
+abbrev pub unstored_answers : Session → History → ℕ → Option Plan → List (List Answer)
+unstored_answers s h segment (Some (plans.File n)) = (answers.Taken segment ∷ answers.StoreFailed (page_no (next_page h)) ∷ []) ∷ []
+unstored_answers s h segment plan = []
 
 abbrev pub plan_in : Session → History → ℕ → Option Plan
 plan_in s h b = option_map_or (λ (build : Build). build.plan) (build_in (builds s.limits.page h) b) None
@@ -92,11 +92,11 @@ source_of (Some job) = job.source
 abbrev pub accepted : Session → History → Event → List Answer
 accepted s h (events.Build renderer name kind parts) = build_answer s h renderer.0 name parts ∷ []
 accepted s h (events.Slice renderer name source from to kind) = build_answer s h renderer.0 name (slice_parts (builds s.limits.page h) source from to) ∷ []
-accepted s h (events.Segment renderer b segment bytes) = answers.Taken segment ∷ stored s h b segment (plan_in s h b)
+accepted s h (events.Segment renderer b segment bytes) = answers.Taken segment ∷ stored_answers s h b segment (plan_in s h b)
 accepted s h (events.Stat renderer b) = answers.Told b (size_in (builds s.limits.page h) b) (kind_in (builds s.limits.page h) b) (status_of s h b) ∷ []
 accepted s h (events.Revoke renderer text) = (if owns_entry h renderer.0 text then answers.Revoked else answers.Nothing) ∷ []
-accepted s h (events.Read renderer reader b off len) = opened s h reader b ∷ []
-accepted s h (events.Fetch renderer reader text off len) = opened s h reader (blob_at h renderer.0 text) ∷ []
+accepted s h (events.Read renderer reader b off len) = opened_answer s h reader b ∷ []
+accepted s h (events.Fetch renderer reader text off len) = opened_answer s h reader (blob_at h renderer.0 text) ∷ []
 accepted s h (events.Disk job) = job_done h job (source_of (in_flight h)) (job_left s.limits.page h) ∷ []
 accepted s h (events.Lost job) = answers.LostJob job ∷ []
 accepted s h events.Count =
@@ -105,7 +105,7 @@ accepted s h event = answers.Good ∷ []
 
 -- the answers where the disk fails
 abbrev pub failing : Session → History → Event → List (List Answer)
-failing s h (events.Segment renderer b segment bytes) = unstored s h segment (plan_in s h b)
+failing s h (events.Segment renderer b segment bytes) = unstored_answers s h segment (plan_in s h b)
 failing s h (events.Disk job) = job_failed h job (source_of (in_flight h)) (job_left s.limits.page h)
 failing s h event = []
 

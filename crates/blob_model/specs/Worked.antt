@@ -1,7 +1,8 @@
 -- The words in which worked sessions are written. Own.
-use Rattle.std.specs.Prelude.{ℕ, zero, suc, true, List, [], ◌∷◌, length, Some}
+use Rattle.std.specs.Prelude.{◌≡◌, ℕ, zero, suc, ◌^◌, ◌&&◌, Bool, true, List, [], ◌∷◌, length, Some, nat_lt, nat_le}
 use Rattle.std.specs.List.{AllByRecursion}
-use Rattle.std.proofs.Common.{lit<, lit≤}
+use Rattle.std.proofs.Common.{refl}
+use Rattle.std.proofs.lemmas.Bool.{and_parts, ltb-true, leb-true}
 use Rattle.blob_words.specs.declared.limits.Limits.{Limits}
 use Rattle.blob_words.specs.declared.version.Version.{Version}
 use Rattle.blob_words.specs.declared.number.RendererId.{RendererId}
@@ -45,7 +46,7 @@ abbrev pub no_handles : Outside
 no_handles = record { slots = []; disk_tells = true }
 
 abbrev pub with_handle : List ℕ → Outside
-with_handle bytes = record { slots = record { size = length bytes; bytes = Some bytes } ∷ []; disk_tells = true }
+with_handle bytes = record { slots = record { size = length bytes; bytes = Some bytes; told_whole = refl } ∷ []; disk_tells = true }
 
 -- another group at this place
 abbrev pub group_at : ℕ → Group → List Group → List Group
@@ -57,252 +58,80 @@ group_at (suc n) other (group ∷ groups) = group ∷ group_at n other groups
 abbrev pub replaced : ℕ → Group → Worked → Worked
 replaced n other worked = record worked { groups = group_at n other worked.groups }
 
--- limits 64 64 32 16 4 8 2
+-- whether seven numbers are limits, in three parts: none that has to be above 0 is 0, none is too large, and none passes the memory
+abbrev pub are_some : (memory big segment page chunk : ℕ) → Bool
+are_some memory big segment page chunk = nat_lt 0 memory && (nat_lt 0 big && (nat_lt 0 segment && (nat_lt 0 page && nat_lt 0 chunk)))
+
+abbrev pub are_bounded : (memory disk inline_max segment page chunk : ℕ) → Bool
+are_bounded memory disk inline_max segment page chunk =
+    nat_le memory (2 ^ 30) && (nat_le disk (2 ^ 40) && (nat_le inline_max (2 ^ 18) && (nat_le segment (2 ^ 18) && (nat_le page (2 ^ 18) && nat_le chunk (2 ^ 16)))))
+
+abbrev pub are_within : (memory big page : ℕ) → Bool
+are_within memory big page = nat_le big memory && nat_le page memory
+
+-- the limits of seven numbers, in the order of their line
+abbrev pub limits_of : (memory disk big inline_max segment page chunk : ℕ) → are_some memory big segment page chunk ≡ true → are_bounded memory disk inline_max segment page chunk ≡ true
+    → are_within memory big page ≡ true → Limits
+limits_of memory disk big inline_max segment page chunk some bounded within =
+    let some_more = and_parts (nat_lt 0 memory) (nat_lt 0 big && (nat_lt 0 segment && (nat_lt 0 page && nat_lt 0 chunk))) some in
+    let some_big = and_parts (nat_lt 0 big) (nat_lt 0 segment && (nat_lt 0 page && nat_lt 0 chunk)) some_more.1 in
+    let some_segment = and_parts (nat_lt 0 segment) (nat_lt 0 page && nat_lt 0 chunk) some_big.1 in
+    let some_page = and_parts (nat_lt 0 page) (nat_lt 0 chunk) some_segment.1 in
+    let low_memory = and_parts (nat_le memory (2 ^ 30)) (nat_le disk (2 ^ 40) && (nat_le inline_max (2 ^ 18) && (nat_le segment (2 ^ 18) && (nat_le page (2 ^ 18) && nat_le chunk (2 ^ 16))))) bounded in
+    let low_disk = and_parts (nat_le disk (2 ^ 40)) (nat_le inline_max (2 ^ 18) && (nat_le segment (2 ^ 18) && (nat_le page (2 ^ 18) && nat_le chunk (2 ^ 16)))) low_memory.1 in
+    let low_inline = and_parts (nat_le inline_max (2 ^ 18)) (nat_le segment (2 ^ 18) && (nat_le page (2 ^ 18) && nat_le chunk (2 ^ 16))) low_disk.1 in
+    let low_segment = and_parts (nat_le segment (2 ^ 18)) (nat_le page (2 ^ 18) && nat_le chunk (2 ^ 16)) low_inline.1 in
+    let low_page = and_parts (nat_le page (2 ^ 18)) (nat_le chunk (2 ^ 16)) low_segment.1 in
+    let fits = and_parts (nat_le big memory) (nat_le page memory) within in
+    record {
+      memory = memory;
+      disk = disk;
+      big = big;
+      inline_max = inline_max;
+      segment = segment;
+      page = page;
+      chunk = chunk;
+      some_memory = ltb-true 0 memory some_more.0;
+      memory_bound = leb-true memory (2 ^ 30) low_memory.0;
+      disk_bound = leb-true disk (2 ^ 40) low_disk.0;
+      some_big = ltb-true 0 big some_big.0;
+      big_bound = leb-true big memory fits.0;
+      inline_bound = leb-true inline_max (2 ^ 18) low_inline.0;
+      some_segment = ltb-true 0 segment some_segment.0;
+      segment_bound = leb-true segment (2 ^ 18) low_segment.0;
+      some_page = ltb-true 0 page some_page.0;
+      page_bound = leb-true page (2 ^ 18) low_page.0;
+      page_fits = leb-true page memory fits.1;
+      some_chunk = ltb-true 0 chunk some_page.1;
+      chunk_bound = leb-true chunk (2 ^ 16) low_page.1;
+    }
+
 abbrev pub short_chunks : Limits
-short_chunks = record {
-  memory = 64;
-  disk = 64;
-  big = 32;
-  inline_max = 16;
-  segment = 4;
-  page = 8;
-  chunk = 2;
-  some_memory = lit< tt;
-  memory_bound = lit≤ tt;
-  disk_bound = lit≤ tt;
-  some_big = lit< tt;
-  big_bound = lit≤ tt;
-  inline_bound = lit≤ tt;
-  some_segment = lit< tt;
-  segment_bound = lit≤ tt;
-  some_page = lit< tt;
-  page_bound = lit≤ tt;
-  page_fits = lit≤ tt;
-  some_chunk = lit< tt;
-  chunk_bound = lit≤ tt;
-}
+short_chunks = limits_of 64 64 32 16 4 8 2 refl refl refl
 
--- limits 64 64 32 16 4 8 8
 abbrev pub plain : Limits
-plain = record {
-  memory = 64;
-  disk = 64;
-  big = 32;
-  inline_max = 16;
-  segment = 4;
-  page = 8;
-  chunk = 8;
-  some_memory = lit< tt;
-  memory_bound = lit≤ tt;
-  disk_bound = lit≤ tt;
-  some_big = lit< tt;
-  big_bound = lit≤ tt;
-  inline_bound = lit≤ tt;
-  some_segment = lit< tt;
-  segment_bound = lit≤ tt;
-  some_page = lit< tt;
-  page_bound = lit≤ tt;
-  page_fits = lit≤ tt;
-  some_chunk = lit< tt;
-  chunk_bound = lit≤ tt;
-}
+plain = limits_of 64 64 32 16 4 8 8 refl refl refl
 
--- limits 64 64 32 16 4 4 8
 abbrev pub short_pages : Limits
-short_pages = record {
-  memory = 64;
-  disk = 64;
-  big = 32;
-  inline_max = 16;
-  segment = 4;
-  page = 4;
-  chunk = 8;
-  some_memory = lit< tt;
-  memory_bound = lit≤ tt;
-  disk_bound = lit≤ tt;
-  some_big = lit< tt;
-  big_bound = lit≤ tt;
-  inline_bound = lit≤ tt;
-  some_segment = lit< tt;
-  segment_bound = lit≤ tt;
-  some_page = lit< tt;
-  page_bound = lit≤ tt;
-  page_fits = lit≤ tt;
-  some_chunk = lit< tt;
-  chunk_bound = lit≤ tt;
-}
+short_pages = limits_of 64 64 32 16 4 4 8 refl refl refl
 
--- limits 8 0 8 8 4 8 8
 abbrev pub no_disk : Limits
-no_disk = record {
-  memory = 8;
-  disk = 0;
-  big = 8;
-  inline_max = 8;
-  segment = 4;
-  page = 8;
-  chunk = 8;
-  some_memory = lit< tt;
-  memory_bound = lit≤ tt;
-  disk_bound = lit≤ tt;
-  some_big = lit< tt;
-  big_bound = lit≤ tt;
-  inline_bound = lit≤ tt;
-  some_segment = lit< tt;
-  segment_bound = lit≤ tt;
-  some_page = lit< tt;
-  page_bound = lit≤ tt;
-  page_fits = lit≤ tt;
-  some_chunk = lit< tt;
-  chunk_bound = lit≤ tt;
-}
+no_disk = limits_of 8 0 8 8 4 8 8 refl refl refl
 
--- limits 8 64 8 8 4 8 8
 abbrev pub small_memory : Limits
-small_memory = record {
-  memory = 8;
-  disk = 64;
-  big = 8;
-  inline_max = 8;
-  segment = 4;
-  page = 8;
-  chunk = 8;
-  some_memory = lit< tt;
-  memory_bound = lit≤ tt;
-  disk_bound = lit≤ tt;
-  some_big = lit< tt;
-  big_bound = lit≤ tt;
-  inline_bound = lit≤ tt;
-  some_segment = lit< tt;
-  segment_bound = lit≤ tt;
-  some_page = lit< tt;
-  page_bound = lit≤ tt;
-  page_fits = lit≤ tt;
-  some_chunk = lit< tt;
-  chunk_bound = lit≤ tt;
-}
+small_memory = limits_of 8 64 8 8 4 8 8 refl refl refl
 
--- limits 8 9 8 8 4 8 8
 abbrev pub nine_on_disk : Limits
-nine_on_disk = record {
-  memory = 8;
-  disk = 9;
-  big = 8;
-  inline_max = 8;
-  segment = 4;
-  page = 8;
-  chunk = 8;
-  some_memory = lit< tt;
-  memory_bound = lit≤ tt;
-  disk_bound = lit≤ tt;
-  some_big = lit< tt;
-  big_bound = lit≤ tt;
-  inline_bound = lit≤ tt;
-  some_segment = lit< tt;
-  segment_bound = lit≤ tt;
-  some_page = lit< tt;
-  page_bound = lit≤ tt;
-  page_fits = lit≤ tt;
-  some_chunk = lit< tt;
-  chunk_bound = lit≤ tt;
-}
+nine_on_disk = limits_of 8 9 8 8 4 8 8 refl refl refl
 
--- limits 8 8 8 8 4 8 8
 abbrev pub eight_on_disk : Limits
-eight_on_disk = record {
-  memory = 8;
-  disk = 8;
-  big = 8;
-  inline_max = 8;
-  segment = 4;
-  page = 8;
-  chunk = 8;
-  some_memory = lit< tt;
-  memory_bound = lit≤ tt;
-  disk_bound = lit≤ tt;
-  some_big = lit< tt;
-  big_bound = lit≤ tt;
-  inline_bound = lit≤ tt;
-  some_segment = lit< tt;
-  segment_bound = lit≤ tt;
-  some_page = lit< tt;
-  page_bound = lit≤ tt;
-  page_fits = lit≤ tt;
-  some_chunk = lit< tt;
-  chunk_bound = lit≤ tt;
-}
+eight_on_disk = limits_of 8 8 8 8 4 8 8 refl refl refl
 
--- limits 8 7 8 8 4 8 8
 abbrev pub seven_on_disk : Limits
-seven_on_disk = record {
-  memory = 8;
-  disk = 7;
-  big = 8;
-  inline_max = 8;
-  segment = 4;
-  page = 8;
-  chunk = 8;
-  some_memory = lit< tt;
-  memory_bound = lit≤ tt;
-  disk_bound = lit≤ tt;
-  some_big = lit< tt;
-  big_bound = lit≤ tt;
-  inline_bound = lit≤ tt;
-  some_segment = lit< tt;
-  segment_bound = lit≤ tt;
-  some_page = lit< tt;
-  page_bound = lit≤ tt;
-  page_fits = lit≤ tt;
-  some_chunk = lit< tt;
-  chunk_bound = lit≤ tt;
-}
+seven_on_disk = limits_of 8 7 8 8 4 8 8 refl refl refl
 
--- limits 8 8 4 0 8 8 2
 abbrev pub long_pages : Limits
-long_pages = record {
-  memory = 8;
-  disk = 8;
-  big = 4;
-  inline_max = 0;
-  segment = 8;
-  page = 8;
-  chunk = 2;
-  some_memory = lit< tt;
-  memory_bound = lit≤ tt;
-  disk_bound = lit≤ tt;
-  some_big = lit< tt;
-  big_bound = lit≤ tt;
-  inline_bound = lit≤ tt;
-  some_segment = lit< tt;
-  segment_bound = lit≤ tt;
-  some_page = lit< tt;
-  page_bound = lit≤ tt;
-  page_fits = lit≤ tt;
-  some_chunk = lit< tt;
-  chunk_bound = lit≤ tt;
-}
+long_pages = limits_of 8 8 4 0 8 8 2 refl refl refl
 
--- limits 1048576 4194304 524288 4096 65536 65536 65536
 abbrev pub wide : Limits
-wide = record {
-  memory = 1048576;
-  disk = 4194304;
-  big = 524288;
-  inline_max = 4096;
-  segment = 65536;
-  page = 65536;
-  chunk = 65536;
-  some_memory = lit< tt;
-  memory_bound = lit≤ tt;
-  disk_bound = lit≤ tt;
-  some_big = lit< tt;
-  big_bound = lit≤ tt;
-  inline_bound = lit≤ tt;
-  some_segment = lit< tt;
-  segment_bound = lit≤ tt;
-  some_page = lit< tt;
-  page_bound = lit≤ tt;
-  page_fits = lit≤ tt;
-  some_chunk = lit< tt;
-  chunk_bound = lit≤ tt;
-}
+wide = limits_of 1048576 4194304 524288 4096 65536 65536 65536 refl refl refl

@@ -1,5 +1,8 @@
 ghost use Rattle.blob_model.specs.Laws.{ChangeLaws};
-ghost use Rattle.blob_model.specs.BuildLaws.{CellsAreSizes, LiveIsLeast, RootedLive, RenderersAreFew, LiveIsClosed, PiecesCover, PiecesAreFew};
+ghost use Rattle.blob_model.specs.BuildLaws.{CellsAreSizes, BuildsAreOrdered, NamesDiffer, LiveIsLeast, RootedLive, LiveAreNamed, LiveIsClosed, PiecesCover, PiecesAreNumbered, SearchesAreAny, UnspawnedAreNotDead, RenderersAreFew, PiecesAreFew};
+ghost use Rattle.blob_model.specs.TextLaws.{GroupsHaveText};
+ghost use Rattle.blob_model.specs.TotalLaws.{TotalsHold, NumbersAreLow};
+ghost use Rattle.blob_model.specs.PageLaws.{PagesRise, AskedWereWritten, PlacesMove, ChangesAdd, WrittenHaveBytes};
 ghost use Rattle.blob_model.specs.SettledLaws.{SettledAfterEach, RefusedSettlesNothing, MemoryFits, DiskFits};
 ghost use Rattle.blob_model.specs.LegalLaws.{FrontsAreLegal, MoreIsLegal, OneTranscript, ReachedAreGranted, ThinStaysForRoom, DiskIsAtMostTwice};
 
@@ -92,4 +95,76 @@ pub fn pieces_cover()
 /// A build with which there would be more than 65,536 pieces is refused.
 pub fn pieces_are_few()
     ensures { PiecesAreFew }
+{}
+
+/// In a legal transcript the names of blobs differ, and a blob takes bytes from older ones.
+pub fn builds_are_ordered()
+    ensures { BuildsAreOrdered }
+{}
+
+/// In a legal transcript no two blobs have one name.
+pub fn names_differ()
+    ensures { NamesDiffer }
+{}
+
+/// Where names differ the live blobs are those of live names, in order of build.
+pub fn live_are_named()
+    ensures { LiveAreNamed }
+{}
+
+/// Pieces are numbered 0, 1, 2 and so on.
+pub fn pieces_are_numbered()
+    ensures { PiecesAreNumbered }
+{}
+
+/// The two searches that end at the first find are `list_any`.
+pub fn searches_are_any()
+    ensures { SearchesAreAny }
+{}
+
+/// In a legal transcript that goes on, who was never spawned is not dead.
+pub fn unspawned_are_not_dead()
+    ensures { UnspawnedAreNotDead }
+{}
+
+/// In a legal transcript the numbers of page files rise, and lie below the next one.
+pub fn pages_rise()
+    ensures { PagesRise }
+{}
+
+/// In a legal transcript each page file asked for was written, and is asked for once.
+pub fn asked_were_written()
+    ensures { AskedWereWritten }
+{}
+
+/// A piece is in the last page file that lists it: which answers move it, and where.
+pub fn places_move()
+    ensures { PlacesMove }
+{}
+
+/// An answer adds its change to those before it, whatever they are.
+pub fn changes_add()
+    ensures { ChangesAdd }
+{}
+
+/// In a legal transcript there are at most 1,024 renderers, 16,384 files, 65,536 blobs, 65,536
+/// pieces and 4,194,304 views, and at once 16,384 URL entries and 4,096 readers.
+pub fn totals_hold()
+    ensures { TotalsHold }
+{}
+
+/// In a legal transcript each byte of a piece that a page file lists has a value.
+pub fn written_have_bytes()
+    ensures { WrittenHaveBytes }
+{}
+
+/// In a legal transcript at most 131,072 jobs start and at most 196,608 page numbers are taken.
+pub fn numbers_are_low()
+    ensures { NumbersAreLow }
+{}
+
+/// Each group of a legal transcript has a text, where its events have a spelling and what is given
+/// are bytes.
+pub fn groups_have_text()
+    ensures { GroupsHaveText }
 {}

@@ -1,4 +1,4 @@
-ghost use Rattle.std.specs.Prelude.{◌≡◌, ◌≤◌, [], drop, length, IfOk};
+ghost use Rattle.std.specs.Prelude.{◌≡◌, ◌≢◌, ◌≤◌, [], drop, length, IfOk};
 ghost use Rattle.std.specs.Io.KnownBytes.{prepend_known};
 ghost use Rattle.blob_source.specs.Faults.{Rose};
 ghost use Rattle.blob_source.specs.Parts.{Fills};
@@ -62,6 +62,7 @@ impl Ahead {
     pub fn fill<S: Source>(&mut self, source: &mut S) -> Filled
         ensures filled { Fills (prepend_known self.old (S.left source.old))
             (prepend_known self.new (S.left source.new)) self.new result }
+        ensures good { result ≢ Filled.Fault → S.faults source.new ≡ S.faults source.old }
         ensures cause { result ≡ Filled.Fault → Rose (S.faults source.old) (S.faults source.new) }
         ensures later { S.faults source.old ≤ S.faults source.new }
     {

@@ -3,6 +3,7 @@
 
 mod ahead;
 mod copies;
+pub mod count;
 mod filled;
 mod line_buffer;
 pub mod line_reader;
@@ -17,6 +18,7 @@ pub mod source;
 mod take;
 pub mod write_sink;
 
+pub use count::counted;
 pub use line_reader::LineReader;
 pub use line_step::LineStep;
 pub use memory_sink::MemorySink;

@@ -62,6 +62,7 @@ impl LineReader {
         ensures step { self.old.last ≡ LineStep.Line →
             Takes (prepend_known self.old.ahead (S.left source.old))
             (prepend_known self.new.ahead (S.left source.new)) self.new.line result }
+        ensures good { result ≢ LineStep.ReadFault → S.faults source.new ≡ S.faults source.old }
         ensures cause { self.old.last ≡ LineStep.Line → result ≡ LineStep.ReadFault →
             Rose (S.faults source.old) (S.faults source.new) }
         ensures later { S.faults source.old ≤ S.faults source.new }

@@ -1,4 +1,4 @@
-ghost use Rattle.std.specs.Prelude.{◌≡◌, ◌^◌, ◌-◌, ◌<◌, ◌≤◌, ◌++◌, ◌==◌, ◌&&◌, ◌||◌, [], length, min, nat_lt, take, IfOk, OnErr, Some};
+ghost use Rattle.std.specs.Prelude.{◌≡◌, ◌^◌, ◌-◌, ◌<◌, ◌≤◌, ◌++◌, ◌==◌, ◌&&◌, ◌||◌, [], length, min, nat_lt, take, IfOk, OnErr, OnOk, Some};
 ghost use Rattle.std.specs.Result.{is_err};
 ghost use Rattle.std.specs.Io.KnownBytes.{WriteAppends};
 ghost use Rattle.blob_source.specs.Faults.{Rose, next_count};
@@ -101,6 +101,7 @@ impl Sink for MemorySink {
         ensures progress { IfOk result
             (λ n. (n ≤ length bytes.now) × (0 < length bytes.now → 0 < n)) }
         ensures bytes { WriteAppends (Some self.old.held) (Some self.new.held) result bytes.now }
+        ensures good { OnOk result (self.new.faults ≡ self.old.faults) }
         ensures failed { OnErr result (Rose self.old.faults self.new.faults) }
         ensures later { self.old.faults ≤ self.new.faults }
 

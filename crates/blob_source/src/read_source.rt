@@ -1,5 +1,6 @@
 ghost use Rattle.std.specs.Prelude.{◌≡◌};
 
+use crate::count::counted;
 use crate::source::Source;
 use blob_words::Failed;
 use std::io::Read;
@@ -26,12 +27,6 @@ impl<R: Read> Source for ReadSource<R> {
     ghost faults = { λ source. source.faults };
 
     fn read(&mut self, out: &mut [u8]) -> Result<usize, Failed> {
-        match self.inner.read(out) {
-            Ok(count) => Ok(count),
-            Err(_) => {
-                self.faults = self.faults.saturating_add(1);
-                Err(Failed)
-            }
-        }
+        counted(self.inner.read(out), &mut self.faults)
     }
 }

@@ -1,4 +1,4 @@
-ghost use Rattle.std.specs.Prelude.{◌≡◌, ◌<◌, ◌≤◌, ◌==◌, ◌^◌, [], length, position};
+ghost use Rattle.std.specs.Prelude.{◌≡◌, ◌≢◌, ◌<◌, ◌≤◌, ◌==◌, ◌^◌, [], length, position};
 ghost use Rattle.std.specs.Io.KnownBytes.{prepend_known};
 ghost use Rattle.blob_source.specs.Faults.{Rose};
 ghost use Rattle.blob_source.specs.Lines.{Takes};
@@ -49,6 +49,7 @@ pub fn take_line<S: Source>(ahead: &mut Ahead, line: &mut LineBuffer, source: &m
     requires { line.old ≡ [] }
     ensures step { Takes (prepend_known ahead.old (S.left source.old))
         (prepend_known ahead.new (S.left source.new)) line.new result }
+    ensures good { result ≢ LineStep.ReadFault → S.faults source.new ≡ S.faults source.old }
     ensures cause { result ≡ LineStep.ReadFault → Rose (S.faults source.old) (S.faults source.new) }
     ensures later { S.faults source.old ≤ S.faults source.new }
 {

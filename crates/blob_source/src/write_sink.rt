@@ -1,5 +1,6 @@
 ghost use Rattle.std.specs.Prelude.{◌≡◌};
 
+use crate::count::counted_write;
 use crate::sink::Sink;
 use blob_words::Failed;
 use std::io::Write;
@@ -27,18 +28,6 @@ impl<W: Write> Sink for WriteSink<W> {
     ghost faults = { λ sink. sink.faults };
 
     fn write(&mut self, bytes: &[u8]) -> Result<usize, Failed> {
-        match self.inner.write(bytes) {
-            Ok(count) => {
-                if count == 0 && !bytes.is_empty() {
-                    self.faults = self.faults.saturating_add(1);
-                    return Err(Failed);
-                }
-                Ok(count)
-            }
-            Err(_) => {
-                self.faults = self.faults.saturating_add(1);
-                Err(Failed)
-            }
-        }
+        counted_write(self.inner.write(bytes), bytes.len(), &mut self.faults)
     }
 }

@@ -3,3 +3,4 @@ pub mod BlobName
 pub mod Origin
 pub mod FileName
 pub mod UrlText
+pub mod Lends

@@ -1,6 +1,7 @@
 //! Names, numbers, limits and lists that every crate of the blob store speaks of.
 #![tactic(auto)]
 
+pub mod bounds;
 pub mod counted;
 pub mod fault;
 pub mod file_name;

@@ -1,4 +1,7 @@
-ghost use Rattle.std.specs.Prelude.{◌≡◌, [], ◌∷◌, ◌++◌, length, take, IfOk, OnOk, OnErr};
+ghost use Rattle.std.specs.Prelude.{◌≡◌, ◌+◌, ◌<◌, [], ◌∷◌, ◌++◌, drop, length, slice_index_or, take, IfOk, IsSome, OnOk, OnErr, ◌↔◌};
+ghost use Rattle.std.specs.Borrow.{sem};
+ghost use Rattle.std.specs.Option.{option_to_list};
+ghost use Rattle.blob_words.specs.Lends.{LendsItems};
 
 use crate::fault::NoMemory;
 use crate::number::PieceNo;
@@ -54,6 +57,21 @@ impl<T> ItemList<T> {
         self.items.as_slice()
     }
 
+    /// The items, to be written over in their places.
+    pub fn as_mut_slice(&mut self) -> &mut [T]
+        ensures* writes_back { sem 𝓛 (LendsItems T.row self.entry result) }
+        ensures value { result.now ≡ self.old }
+    {
+        self.items.as_mut_slice()
+    }
+
+    /// The items as a vector.
+    pub fn into_vec(self) -> Vec<T>
+        ensures { result.items ≡ self }
+    {
+        self.items
+    }
+
     pub fn len(&self) -> usize
         ensures { result ≡ length self.now }
     {
@@ -69,6 +87,23 @@ impl<T: Drop> ItemList<T> {
     {
         self.items.push(item)?;
         Ok(())
+    }
+
+    /// Takes the last item, where there is one.
+    pub fn pop(&mut self) -> Option<T>
+        ensures items { self.old ≡ self.new ++ option_to_list result }
+        ensures some { IsSome result ↔ (0 < length self.old) }
+    {
+        self.items.pop()
+    }
+
+    /// Takes the item at a place. Those behind it move up by one.
+    pub fn remove(&mut self, place: usize) -> T
+        requires { place < length self.old }
+        ensures item { result ≡ slice_index_or self.old place result }
+        ensures rest { self.new ≡ take place self.old ++ drop (place + 1) self.old }
+    {
+        self.items.remove(place)
     }
 
     /// Keeps the first `len` items.

@@ -3,7 +3,7 @@ use Rattle.std.proofs.Common.{◌≡◌, ℕ, zero, suc, ◌+◌, ◌<◌, ◌�
 use Rattle.std.specs.Prelude.{if◌then◌else◌, is_some, slice_get, IsSome, IsSomeAnd}
 use Rattle.std.specs.Option.{option_map}
 use Rattle.std.proofs.lemmas.Bool.{cases_lt}
-use Rattle.std.proofs.lemmas.List.{length-map, map-set}
+use Rattle.std.proofs.lemmas.List.{length-map, map-set, set-get_or}
 use Rattle.std.proofs.lemmas.List.Sums.{sum_by-cons, sum_by-set}
 use Rattle.std.proofs.lemmas.Option.{get_or_from_slice_get, slice_get-map, slice_get_past, slice_get_read, slice_get_within}
 use Rattle.data_handles.specs.Handles.{Handle}
@@ -19,6 +19,10 @@ written : {X : Type 0} (xs : List X) (k : ℕ) (x y : X) → slice_get xs k ≡ 
 written [] k x y is = cc
 written (first ∷ xs) zero x y is = refl
 written (first ∷ xs) (suc k) x y is = written xs k x y is
+
+-- and what was there, written again, changes nothing
+unwritten : {X : Type 0} (xs : List X) (k : ℕ) (x : X) → slice_get xs k ≡ Some x → set xs k x ≡ xs
+unwritten xs k x is = ap (set xs k) (sym (get_or_from_slice_get xs k x x is)) ∙ set-get_or xs k x
 
 -- a slot with an object is one of the table's
 pub is_within : (P : Handle → Type 0) (table : Table) (k : ℕ) → IsSomeAnd (object_at table k) P → k < length table.slots
@@ -101,6 +105,13 @@ module _ {H : Type 0} (seen : H → Handle) where
       let same = map-set (slot_of seen) items k new in
       ap (λ slots. table_of slots past) same ∙ counted_table (slots_of items) past k (slot_of seen place) (slot_of seen new) there is
       ∙ ap (λ slots. counted_at (table_of (slots_of items) past) k (faults_at (table_of slots past) k)) (sym same)
+
+  -- a place that is seen as before
+  pub same_places : (items : List (Place H)) (past k : ℕ) (place new : Place H) → slice_get (slots_of items) k ≡ Some (slot_of seen place) → slot_of seen new ≡ slot_of seen place
+      → table_of (slots_of (set items k new)) past ≡ table_of (slots_of items) past
+  same_places items past k place new there is =
+      let same : set (slots_of items) k (slot_of seen place) ≡ slots_of items = unwritten (slots_of items) k (slot_of seen place) there in
+      ap (λ slots. table_of slots past) (map-set (slot_of seen) items k new ∙ ap (set (slots_of items) k) is ∙ same)
 
   pub claimed_places : (items : List (Place H)) (past k : ℕ) (place new : Place H) → slice_get (slots_of items) k ≡ Some (slot_of seen place) → slot_of seen new ≡ claimed (slot_of seen place)
       → table_of (slots_of (set items k new)) past ≡ claimed_at (table_of (slots_of items) past) k

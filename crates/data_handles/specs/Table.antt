@@ -1,5 +1,5 @@
 -- A table of such objects in slots. Own.
-use Rattle.std.specs.Prelude.{ℕ, ◌≡◌, ◌+◌, ◌≤◌, Bool, true, false, List, length, map, slice_get, slice_set, sum_by, Option, Some, None, option_and_then}
+use Rattle.std.specs.Prelude.{ℕ, ◌≡◌, ◌≢◌, ◌+◌, ◌≤◌, Bool, true, false, List, length, map, slice_get, slice_set, sum_by, Option, Some, None, option_and_then}
 use Rattle.std.specs.Option.{option_map, option_map_or}
 use Rattle.data_handles.specs.Handles.{with_faults, Handle}
 use Rattle.data_handles.specs.declared.fault.SlotFault.{SlotFault}
@@ -70,6 +70,10 @@ released_at table k = record { slots = changed_at emptied table k; past = table.
 -- the object in a slot has another count
 abbrev pub counted_at : Table → ℕ → ℕ → Table
 counted_at table k faults = record table { slots = changed_at (counted faults) table k }
+
+-- each slot but one is as it was, and there are as many
+abbrev pub KeepsOthers : ℕ → Table → Table → Type 0
+KeepsOthers k old new = (length new.slots ≡ length old.slots) × ((other : ℕ) → other ≢ k → slot_at new other ≡ slot_at old other)
 
 -- when a slot can't be claimed
 abbrev pub SlotFaultAt : Table → ℕ → SlotFault → Type 0

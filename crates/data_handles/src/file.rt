@@ -2,6 +2,7 @@ ghost use Rattle.std.specs.Prelude.{◌≡◌, IfOk};
 
 use crate::fault::OpenFault;
 use crate::handle::DataHandle;
+use blob_source::counted;
 use blob_words::Failed;
 use std::fs::File;
 use std::os::unix::fs::FileExt;
@@ -21,10 +22,6 @@ fn open_sized<R: Files<File = File>>(rt: &R, path: &str) -> io::Result<(File, u6
     let file = fs::open(rt, path)?;
     let size = file.metadata()?.len();
     Ok((file, size))
-}
-
-fn read_at(file: &File, off: u64, out: &mut [u8]) -> io::Result<()> {
-    file.read_exact_at(out, off)
 }
 
 impl FileHandle {
@@ -66,10 +63,6 @@ impl DataHandle for FileHandle {
     }
 
     fn read(&mut self, off: u64, out: &mut [u8]) -> Result<(), Failed> {
-        if read_at(&self.file, off, out).is_err() {
-            self.faults = self.faults.saturating_add(1);
-            return Err(Failed);
-        }
-        Ok(())
+        counted(self.file.read_exact_at(out, off), &mut self.faults)
     }
 }

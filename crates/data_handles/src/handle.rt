@@ -19,12 +19,13 @@ pub trait DataHandle: Drop {
     fn faults(&self) -> u64
         ensures { result ≡ (seen self.now).faults };
 
-    /// Fills `out` with the bytes from `off` on.
+    /// Fills `out` with the bytes from `off` on. The count rises where this fails, and nowhere else.
     fn read(&mut self, off: u64, out: &mut [u8]) -> Result<(), Failed>
         requires { off + length out.old ≤ (seen self.old).size }
         ensures same { seen self.new ≡ with_faults (seen self.old) (seen self.new).faults }
         ensures bytes { OnOk result (IfSome (seen self.old).told
             (λ bytes. out.new ≡ take (length out.old) (drop off bytes))) }
         ensures failed { OnErr result (Rose (seen self.old).faults (seen self.new).faults) }
+        ensures good { OnOk result (seen self.new ≡ seen self.old) }
         ensures later { (seen self.old).faults ≤ (seen self.new).faults };
 }

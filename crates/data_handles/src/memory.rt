@@ -60,6 +60,7 @@ impl DataHandle for MemoryHandle {
         ensures same { handle_of self.new ≡ with_faults (handle_of self.old) self.new.faults }
         ensures bytes { OnOk result (out.new ≡ take (length out.old) (drop off self.old.bytes)) }
         ensures failed { OnErr result (Rose self.old.faults self.new.faults) }
+        ensures good { OnOk result (handle_of self.new ≡ handle_of self.old) }
         ensures later { self.old.faults ≤ self.new.faults }
 
         // It fails exactly at the reads listed.

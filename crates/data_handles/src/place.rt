@@ -55,6 +55,7 @@ impl<H: DataHandle> Place<H> {
             ≡ counted (slot_faults (slot_of H.seen self.new)) (slot_of H.seen self.old) }
         ensures bytes { OnOk result (IsSomeAnd (slot_of H.seen self.old).object
             (λ handle. IfSome handle.told (λ bytes. out.new ≡ take (length out.old) (drop off bytes)))) }
+        ensures good { OnOk result (slot_of H.seen self.new ≡ slot_of H.seen self.old) }
         ensures failed { OnErr result (Rose (slot_faults (slot_of H.seen self.old)) (slot_faults (slot_of H.seen self.new))) }
         ensures later { slot_faults (slot_of H.seen self.old) ≤ slot_faults (slot_of H.seen self.new) }
         ensures held { is_some self.new.object ≡ is_some self.old.object }

@@ -1,5 +1,6 @@
-ghost use Rattle.std.specs.Prelude.{◌≡◌, ◌+◌, ◌*◌, ◌^◌, ◌<◌, ◌≤◌, true, drop, if◌then◌else◌, is_some, length, map, sum_by, take, false, ◌||◌, IfOk, IfSome, IsSome, IsSomeAnd, IfErr, MatchResult, OnErr, OnOk};
+ghost use Rattle.std.specs.Prelude.{◌≡◌, ◌+◌, ◌*◌, ◌^◌, ◌<◌, ◌≤◌, true, drop, if◌then◌else◌, is_some, length, map, sum_by, take, vec_len, false, ◌||◌, IfOk, IfSome, IsSome, IsSomeAnd, IfErr, MatchResult, OnErr, OnOk};
 ghost use Rattle.blob_source.specs.Faults.{Rose};
+ghost use Rattle.blob_words.specs.declared.bounds.TheConstants.{MOST_HANDLES};
 
 use crate::fault::SlotFault;
 use crate::handle::DataHandle;
@@ -13,6 +14,7 @@ pub struct Slots<H> {
     pub slots: Vec<Place<H>>,
     // The counts of the objects that were dropped.
     pub past: u128,
+    ghost few: { vec_len slots ≤ MOST_HANDLES },
     ghost past_fits: { past ≤ 2 ^ 64 * sum_by (λ place. if is_some place.object then 0 else 1) slots.items },
 }
 
@@ -22,6 +24,7 @@ impl<H: DataHandle> Slots<H> {
 
     // The objects in their order, none of them claimed.
     pub fn new(alloc: Global, objects: Vec<H>) -> Result<Slots<H>, NoMemory>
+        requires { vec_len objects ≤ MOST_HANDLES }
         ensures { IfOk result (λ table. of_slots H.seen table ≡ new_table (map H.seen objects.items)) }
     {
         let mut slots = Vec::with_capacity(alloc, objects.len())?;
@@ -68,6 +71,7 @@ impl<H: DataHandle> Slots<H> {
             (faults_at (of_slots H.seen self.new) k) }
         ensures bytes { OnOk result (IsSomeAnd (object_at (of_slots H.seen self.old) k)
             (λ handle. IfSome handle.told (λ bytes. out.new ≡ take (length out.old) (drop off bytes)))) }
+        ensures good { OnOk result (of_slots H.seen self.new ≡ of_slots H.seen self.old) }
         ensures failed { OnErr result (Rose (faults_at (of_slots H.seen self.old) k)
             (faults_at (of_slots H.seen self.new) k)) }
         ensures later { faults_at (of_slots H.seen self.old) k ≤ faults_at (of_slots H.seen self.new) k }
@@ -84,6 +88,14 @@ impl<H: DataHandle> Slots<H> {
     {
         let faults = self.slots[k as usize].release();
         self.past += u128::from(faults);
+    }
+
+    // How many slots there are.
+    pub fn len(&self) -> u32
+        ensures value { result ≡ length (of_slots H.seen self.now).slots }
+        ensures most { result ≤ MOST_HANDLES }
+    {
+        self.slots.len() as u32
     }
 
     // Whether a slot holds an object.

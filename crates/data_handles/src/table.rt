@@ -1,6 +1,7 @@
-ghost use Rattle.std.specs.Prelude.{◌≡◌, ◌+◌, ◌≤◌, true, false, drop, is_some, length, map, take, IfErr, IfOk, IfSome, IsSome, IsSomeAnd, MatchResult, OnErr, OnOk};
+ghost use Rattle.std.specs.Prelude.{◌≡◌, ◌+◌, ◌≤◌, true, false, drop, is_some, length, map, take, vec_len, None, IfErr, IfOk, IfSome, IsSome, IsSomeAnd, MatchResult, OnErr, OnOk};
 ghost use Rattle.blob_source.specs.Faults.{Rose};
-ghost use Rattle.data_handles.specs.Table.{claimed_at, count_of, counted_at, faults_at, is_claimed_at, new_table, object_at, released_at, SlotFaultAt};
+ghost use Rattle.blob_words.specs.declared.bounds.TheConstants.{MOST_HANDLES};
+ghost use Rattle.data_handles.specs.Table.{claimed_at, count_of, counted_at, faults_at, is_claimed_at, new_table, object_at, released_at, KeepsOthers, SlotFaultAt};
 
 use crate::boxed::Boxed;
 use crate::fault::SlotFault;
@@ -33,7 +34,7 @@ impl HandleTable {
 
     /// A table of these objects: slot k holds object k and isn't claimed.
     pub fn new(alloc: Global, objects: Vec<Box<dyn DataHandle>>) -> Result<HandleTable, NoMemory>
-        requires { length objects.items ≤ 4096 }
+        requires { vec_len objects ≤ MOST_HANDLES }
         ensures { IfOk result (λ table. of_table ⟦<Boxed as DataHandle>⟧.seen table
             ≡ new_table (map (λ object. seen object) objects.items)) }
     {
@@ -57,6 +58,8 @@ impl HandleTable {
         ensures ok { IfOk result (λ size. (is_claimed_at (of_table ⟦<Boxed as DataHandle>⟧.seen self.old) k ≡ false)
             × IsSomeAnd (object_at (of_table ⟦<Boxed as DataHandle>⟧.seen self.old) k) (λ handle. handle.size ≡ size)
             × (of_table ⟦<Boxed as DataHandle>⟧.seen self.new ≡ claimed_at (of_table ⟦<Boxed as DataHandle>⟧.seen self.old) k)) }
+        ensures others { KeepsOthers k (of_table ⟦<Boxed as DataHandle>⟧.seen self.old)
+            (of_table ⟦<Boxed as DataHandle>⟧.seen self.new) }
         ensures err { IfErr result (λ fault. SlotFaultAt (of_table ⟦<Boxed as DataHandle>⟧.seen self.old) k fault
             × (of_table ⟦<Boxed as DataHandle>⟧.seen self.new ≡ of_table ⟦<Boxed as DataHandle>⟧.seen self.old)) }
     {
@@ -72,6 +75,10 @@ impl HandleTable {
             (faults_at (of_table ⟦<Boxed as DataHandle>⟧.seen self.new) k) }
         ensures bytes { OnOk result (IsSomeAnd (object_at (of_table ⟦<Boxed as DataHandle>⟧.seen self.old) k)
             (λ handle. IfSome handle.told (λ bytes. out.new ≡ take (length out.old) (drop off bytes)))) }
+        ensures others { KeepsOthers k (of_table ⟦<Boxed as DataHandle>⟧.seen self.old)
+            (of_table ⟦<Boxed as DataHandle>⟧.seen self.new) }
+        ensures good { OnOk result (of_table ⟦<Boxed as DataHandle>⟧.seen self.new
+            ≡ of_table ⟦<Boxed as DataHandle>⟧.seen self.old) }
         ensures failed { OnErr result (Rose (faults_at (of_table ⟦<Boxed as DataHandle>⟧.seen self.old) k)
             (faults_at (of_table ⟦<Boxed as DataHandle>⟧.seen self.new) k)) }
         ensures later { faults_at (of_table ⟦<Boxed as DataHandle>⟧.seen self.old) k
@@ -88,8 +95,19 @@ impl HandleTable {
             ≡ released_at (of_table ⟦<Boxed as DataHandle>⟧.seen self.old) k }
         ensures count { count_of (of_table ⟦<Boxed as DataHandle>⟧.seen self.new)
             ≡ count_of (of_table ⟦<Boxed as DataHandle>⟧.seen self.old) }
+        ensures gone { object_at (of_table ⟦<Boxed as DataHandle>⟧.seen self.new) k ≡ None }
+        ensures others { KeepsOthers k (of_table ⟦<Boxed as DataHandle>⟧.seen self.old)
+            (of_table ⟦<Boxed as DataHandle>⟧.seen self.new) }
     {
         self.slots.release(k);
+    }
+
+    /// How many slots there are.
+    pub fn len(&self) -> u32
+        ensures value { result ≡ length (of_table ⟦<Boxed as DataHandle>⟧.seen self.now).slots }
+        ensures most { result ≤ MOST_HANDLES }
+    {
+        self.slots.len()
     }
 
     /// Whether a slot holds an object.

@@ -1,5 +1,5 @@
 -- A map with bytes as its keys, seen with the bytes themselves: what a look-up, an insertion and a write say of it.
-use Rattle.std.proofs.Common.{◌≡◌, ℕ, cond, List, [], ◌∷◌, Some, None, map, refl, ap, subst}
+use Rattle.std.proofs.Common.{◌≡◌, ℕ, Bool, true, false, cond, List, [], ◌∷◌, Option, Some, None, length, map, refl, sym, ap, ◌∙◌, subst}
 use Rattle.std.specs.Prelude.{IsSome, Vec}
 use Rattle.std.specs.declared.alloc.Global.{Global}
 use Rattle.std.specs.List.{AllByRecursion}
@@ -8,9 +8,12 @@ use Rattle.std.specs.declared.cmp.Ordering.{Ordering}
 use Rattle.std.specs.declared.cmp.Ordering.TheVariants.{Less, Equal, Greater}
 use Rattle.std.specs.Ordering.{is_eq, match_ordering, nat_cmp}
 use Rattle.std.specs.Cmp.Lexicographic.{slice_cmp, nat_list_cmp_total}
+use Rattle.std.proofs.lemmas.Cmp.{eq_by_cmp_equiv, nat_list_eq_equiv}
+use Rattle.std.proofs.lemmas.List.{length-map}
+use Rattle.std.proofs.lemmas.Slice.Eq.{bytes_eq-Decides}
 use Rattle.std.specs.Str.{bytes_eq}
-use Rattle.std.specs.Map.{keys_of, lookup, set_value}
-use Rattle.std.specs.BTreeMap.{insert_entry, is_at}
+use Rattle.std.specs.Map.{keys_of, lookup, set_value, KeepsOthers}
+use Rattle.std.specs.BTreeMap.{insert_entry, is_at, BTreeMap, UpdatesBy}
 use Rattle.std.proofs.lemmas.Map.Keys.{sorted_head, sorted_tail}
 use Rattle.std.proofs.lemmas.Map.Text.{is_eq-slice_cmp}
 use Rattle.file_table.specs.Keys.{key_cmp, order_of}
@@ -58,3 +61,23 @@ module _ {V : Type 0} where
       by Less is some rest = let none = none_after name entry.0 entries is (sorted_head key_cmp entry.0 (keys_of entries) sorted) in let found = subst IsSome none some in cc
       by Equal is some rest = refl
       by Greater is some rest = ap (λ more. (entry.0.items, entry.1) ∷ more) (rest some)
+
+  -- how many are seen
+  pub length_seen : (entries : List (Vec ℕ Global × V)) → length (seen entries) ≡ length entries
+  length_seen entries = length-map entries (λ entry. (entry.0.items, entry.1))
+
+  -- after a change at a name, every other name has what it had
+  pub reads_updated : (name : List ℕ) (old new : BTreeMap (Vec ℕ Global) V) (value : Option V) → UpdatesBy key_cmp (order_of name) old new value
+      → (other : List ℕ) → lookup (bytes_eq other) (seen new.entries) ≡ cond (bytes_eq name other) value (lookup (bytes_eq other) (seen old.entries))
+  unfolding KeepsOthers
+  reads_updated name old new value updates other =
+      sym (lookup_seen other new.entries) ∙ by (bytes_eq name other) refl ∙ ap (λ found. cond (bytes_eq name other) value found) (lookup_seen other old.entries)
+    where
+      apart : bytes_eq name other ≡ false → (key : Vec ℕ Global) → is_at (order_of name) key ≡ true → is_at (order_of other) key ≡ false
+      apart differs key here =
+          let same : bytes_eq name key.items ≡ true = sym (is_eq-slice_cmp name key.items) ∙ here in
+          is_eq-slice_cmp other key.items ∙ nat_list_eq_equiv.symm other key.items ∙ sym (nat_list_eq_equiv.congr name key.items other same) ∙ differs
+
+      by : (b : Bool) → bytes_eq name other ≡ b → lookup (is_at (order_of other)) new.entries ≡ cond b value (lookup (is_at (order_of other)) old.entries)
+      by true same = subst (λ name. lookup (is_at (order_of name)) new.entries ≡ value) ((bytes_eq-Decides name other).0 same) updates.1
+      by false differs = updates.3 (is_at (order_of other)) (λ x y here. (eq_by_cmp_equiv nat_list_cmp_total).congr other x.items y.items here) (apart differs)

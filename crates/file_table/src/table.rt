@@ -4,8 +4,9 @@ ghost use Rattle.std.specs.Option.{option_copied};
 ghost use Rattle.std.specs.Result.{is_ok};
 ghost use Rattle.std.specs.List.Sorted.{IsStrictlySortedBy};
 ghost use Rattle.std.specs.Map.{keys_of, set_value};
-ghost use Rattle.std.specs.BTreeMap.{get_by, is_at};
+ghost use Rattle.std.specs.BTreeMap.{get_by, is_at, UpdatesBy};
 ghost use Rattle.file_table.specs.Keys.{key_cmp, order_of};
+ghost use Rattle.file_table.specs.Changes.{Notes};
 ghost use Rattle.file_table.specs.Files.{content_of, fault_of, is_readable, note_of, noted, state_of, IsCause};
 
 use crate::fault::{Changed, NoFile, NoteFault};
@@ -39,6 +40,9 @@ impl Model for FileTable {
 fn clear_at(notes: &mut BTreeMap<Vec<u8>, FileNote>, name: &[u8])
     ensures known { IfSome (get_by (order_of name.now) notes.old) (λ note. notes.new.entries
         ≡ set_value (is_at (order_of name.now)) notes.old.entries (record note { bytes = None })) }
+    ensures updates { IfSome (get_by (order_of name.now) notes.old) (λ note. UpdatesBy key_cmp
+        (order_of name.now) notes.old notes.new (Some (record note { bytes = None }))) }
+    ensures many { length notes.new.entries ≡ length notes.old.entries }
     ensures ordered { IsStrictlySortedBy key_cmp (keys_of notes.old.entries) }
 {
     let _count = notes.len();
@@ -109,6 +113,8 @@ impl FileTable {
     fn put(&mut self, name: &FileName, stamp: u64, bytes: &[u8]) -> Result<(), NoMemory>
         ensures ok { OnOk result (self.new
             ≡ noted name.now (record { last = stamp; bytes = Some bytes.now }) self.old) }
+        ensures changes { OnOk result (Notes name.now
+            (record { last = stamp; bytes = Some bytes.now }) self.old self.new) }
         ensures err { OnErr result (self.new ≡ self.old) }
     {
         let key = Vec::from_slice(self.alloc, name.as_slice())?;
@@ -125,6 +131,8 @@ impl FileTable {
     pub fn note(&mut self, name: &FileName, stamp: u64, bytes: &[u8]) -> Result<(), NoteFault>
         ensures ok { OnOk result (self.new
             ≡ noted name.now (record { last = stamp; bytes = Some bytes.now }) self.old) }
+        ensures changes { OnOk result (Notes name.now
+            (record { last = stamp; bytes = Some bytes.now }) self.old self.new) }
         ensures none_due { OnOk result
             (fault_of stamp (length self.old) (note_of name.now self.old) ≡ None) }
         ensures fault { IfErr result (λ fault. (self.new ≡ self.old)
@@ -141,10 +149,12 @@ impl FileTable {
 
     /// Lets the content of a file go; its last stamp stays known.
     pub fn forget(&mut self, name: &FileName) -> Result<(), NoFile>
-        ensures { MatchResult result
+        ensures cases { MatchResult result
             (λ _. IsSomeAnd (note_of name.now self.old) (λ note. IsSome note.bytes
             × (self.new ≡ noted name.now (record note { bytes = None }) self.old)))
             (λ _. (state_of name.now self.old ≡ None) × (self.new ≡ self.old)) }
+        ensures changes { OnOk result (IfSome (note_of name.now self.old) (λ note.
+            Notes name.now (record note { bytes = None }) self.old self.new)) }
     {
         if self.state(name).is_none() {
             return Err(NoFile);

@@ -1,5 +1,5 @@
 -- Items under slots, each with the number of views on it. Own.
-use Rattle.std.specs.Prelude.{ℕ, ◌≡◌, ◌≢◌, List, length, Option, None, option_map, slice_index_or}
+use Rattle.std.specs.Prelude.{ℕ, ◌≡◌, ◌≢◌, ◌<◌, List, length, Option, None, option_map, slice_index_or, IfSome}
 use Rattle.blob_words.specs.declared.number.PageNo.{PageNo}
 use Rattle.item_shares.specs.declared.item.Item.{Item}
 use Rattle.item_shares.specs.declared.item.Item.TheVariants.{Memory, Paged, Reserved, File, Range}
@@ -16,6 +16,10 @@ share_at shares slot = slice_index_or shares slot None
 -- the item that a slot holds
 abbrev pub item_at : List (Option Share) → ℕ → Option Item
 item_at shares slot = option_map (λ share. share.item) (share_at shares slot)
+
+-- no item stands that nothing views
+abbrev pub AreViewed : List (Option Share) → Type 0
+AreViewed shares = (slot : ℕ) → IfSome (share_at shares slot) (λ share. 0 < share.count)
 
 -- the slot now holds this, and every other slot what it held
 pub record Changes (old new : List (Option Share)) (slot : ℕ) (held : Option Share) : Type 0 where

@@ -1,6 +1,7 @@
-ghost use Rattle.std.specs.Prelude.{ℕ, ◌≡◌, ◌≢◌, ◌+◌, ◌-◌, ◌^◌, ◌<◌, [], None, Some, IfOk, IfSome, IsSome, IsSomeAnd, OnErr};
-ghost use Rattle.std.specs.Option.{option_copied};
-ghost use Rattle.item_shares.specs.Shares.{HoldsPiece, Changes, item_at, paged_item, share_at, share_of};
+ghost use Rattle.std.specs.Prelude.{ℕ, ◌≡◌, ◌≢◌, ◌+◌, ◌-◌, ◌^◌, ◌<◌, [], None, Some, IfOk, IfSome, IsSome, IsSomeAnd, OnErr, OnOk};
+ghost use Rattle.std.specs.Option.{option_copied, option_map_or};
+ghost use Rattle.item_shares.specs.Shares.{AreViewed, HoldsPiece, Changes, item_at, paged_item, share_at, share_of};
+ghost use Rattle.item_shares.specs.Weights.{weights};
 
 use crate::item::Item;
 use blob_words::{NoMemory, PageNo};
@@ -23,19 +24,20 @@ pub struct Shares {
 }
 
 impl Model for Shares {
-    ghost use Rattle.std.specs.Prelude.{ℕ, ◌<◌, List, Option, IfSome};
+    ghost use Rattle.std.specs.Prelude.{List, Option};
     ghost use Rattle.item_shares.specs.declared.shares.Share.{Share};
-    ghost use Rattle.item_shares.specs.Shares.{share_at};
+    ghost use Rattle.item_shares.specs.Shares.{AreViewed};
 
     ghost Value = { List (Option Share) };
 
     ghost view = { λ shares. shares.slots.slots };
 
-    ghost invariant = { λ shares. (slot : ℕ)
-        → IfSome (share_at shares.slots.slots slot) (λ share. 0 < share.count) };
+    ghost invariant = { λ shares. AreViewed shares.slots.slots };
 }
 
 impl Shares {
+    ghost use Rattle.item_shares.specs.declared.item.Item.{Item};
+
     /// No items.
     pub fn new(alloc: Global) -> Result<Shares, NoMemory>
         ensures { IfOk result (λ shares. shares ≡ []) }
@@ -49,6 +51,8 @@ impl Shares {
     pub fn add(&mut self, item: Item) -> Result<usize, NoMemory>
         ensures vacant { IfOk result (λ slot. share_at self.old slot ≡ None) }
         ensures ok { IfOk result (λ slot. Changes self.old self.new slot (Some (share_of item 1))) }
+        ensures weighs { OnOk result ((weight : Item → ℕ)
+            → weights weight self.new ≡ weights weight self.old + weight item) }
         ensures err { OnErr result (self.new ≡ self.old) }
     {
         let slot = self.slots.insert(Share { item, count: 1 })?;
@@ -58,8 +62,9 @@ impl Shares {
     /// Counts one more view on the item of a slot.
     pub fn share(&mut self, slot: usize)
         requires { IsSomeAnd (share_at self.old slot) (λ share. share.count < 2 ^ 32) }
-        ensures { IfSome (share_at self.old slot) (λ share.
+        ensures more { IfSome (share_at self.old slot) (λ share.
             Changes self.old self.new slot (Some (share_of share.item (share.count + 1)))) }
+        ensures weighs { (weight : Item → ℕ) → weights weight self.new ≡ weights weight self.old }
     {
         if let Some(share) = self.slots.get_mut(slot) {
             share.count += 1;
@@ -74,6 +79,9 @@ impl Shares {
         ensures others { IfSome (share_at self.old slot) (λ share. share.count ≢ 1
             → (result ≡ None)
             × Changes self.old self.new slot (Some (share_of share.item (share.count - 1)))) }
+        ensures counted { IfSome (share_at self.old slot) (λ share. 0 < share.count) }
+        ensures weighs { (weight : Item → ℕ)
+            → weights weight self.new + option_map_or weight result 0 ≡ weights weight self.old }
     {
         if let Some(share) = self.slots.get_mut(slot) {
             if share.count > 1 {
@@ -90,14 +98,15 @@ impl Shares {
     /// A number above every slot that holds an item.
     pub fn end(&self) -> usize
         ensures above { (slot : ℕ) → IsSome (share_at self.now slot) → slot < result }
-        ensures counts { (slot : ℕ) → IfSome (share_at self.now slot) (λ share. 0 < share.count) }
+        ensures counts { AreViewed self.now }
     {
         self.slots.capacity()
     }
 
     /// The item of a slot, if it holds one.
     pub fn get(&self, slot: usize) -> Option<&Item>
-        ensures { option_copied result ≡ item_at self.now slot }
+        ensures item { option_copied result ≡ item_at self.now slot }
+        ensures counts { AreViewed self.now }
     {
         let share = self.slots.get(slot)?;
         Some(&share.item)

@@ -7,7 +7,7 @@ use crate::fault::PutFault;
 use blob_words::{Failed, PageNo};
 
 /// Where page files are kept. A page is written by `begin`, some `append`s and a `seal`; one write
-/// is open at a time. Each `Failed` raises the count of faults.
+/// is open at a time. Each `Failed` raises the count of faults, and nothing else does.
 pub trait PageDisk {
     ghost use Rattle.std.specs.Prelude.{ℕ, List, Option};
     ghost use Rattle.page_disk.specs.declared.change.Change.{Change};
@@ -41,6 +41,7 @@ pub trait PageDisk {
             × Rose (faults self.old) (faults self.new) }
         ensures memory { IsErrOf result PutFault.NoMemory → (writing self.new ≡ None)
             × (changes self.new ≡ changes self.old) × (faults self.new ≡ faults self.old) }
+        ensures good { OnOk result (faults self.new ≡ faults self.old) }
         ensures later { faults self.old ≤ faults self.new }
         ensures meter { meter self.new ≡ meter self.old };
 
@@ -56,6 +57,7 @@ pub trait PageDisk {
         ensures failed { OnErr result ((writing self.new ≡ None)
             × (changes self.new ≡ with_torn (writing self.old) (changes self.old))
             × Rose (faults self.old) (faults self.new)) }
+        ensures good { OnOk result (faults self.new ≡ faults self.old) }
         ensures later { faults self.old ≤ faults self.new }
         ensures meter { meter self.new ≡ meter self.old };
 
@@ -68,6 +70,7 @@ pub trait PageDisk {
         ensures failed { OnErr result
             ((changes self.new ≡ with_torn (writing self.old) (changes self.old))
             × Rose (faults self.old) (faults self.new)) }
+        ensures good { OnOk result (faults self.new ≡ faults self.old) }
         ensures later { faults self.old ≤ faults self.new }
         ensures meter { meter self.new ≡ meter self.old };
 
@@ -80,6 +83,7 @@ pub trait PageDisk {
         ensures bytes { OnOk result (IfSome (changes self.old) (λ changes. IsSomeAnd (last_put page.0 changes)
             (λ bytes. out.new ≡ take (length out.old) (drop off bytes)))) }
         ensures failed { OnErr result (Rose (faults self.old) (faults self.new)) }
+        ensures good { OnOk result (faults self.new ≡ faults self.old) }
         ensures later { faults self.old ≤ faults self.new }
         ensures meter { MatchResult result
             (λ _. meter self.new ≡ min (meter self.old + length out.old) (2 ^ 64 - 1))
@@ -94,6 +98,7 @@ pub trait PageDisk {
         ensures ok { OnOk result (changes self.new ≡ with_change (Remove page) (changes self.old)) }
         ensures failed { OnErr result ((changes self.new ≡ with_change (Left page) (changes self.old))
             × Rose (faults self.old) (faults self.new)) }
+        ensures good { OnOk result (faults self.new ≡ faults self.old) }
         ensures later { faults self.old ≤ faults self.new }
         ensures meter { meter self.new ≡ meter self.old };
 }

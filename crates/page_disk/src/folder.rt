@@ -3,6 +3,7 @@ ghost use Rattle.std.specs.Prelude.{◌≡◌, None, IfOk};
 use crate::disk::PageDisk;
 use crate::fault::PutFault;
 use crate::place::Place;
+use blob_source::counted;
 use blob_words::{Failed, NoMemory, PageNo};
 use std::alloc::Global;
 use std::io::{Read, Seek, SeekFrom, Write};
@@ -114,7 +115,7 @@ impl<R: Files + Clone + Drop> PageDisk for FolderDisk<R> {
 
     fn append(&mut self, bytes: &[u8]) -> Result<(), Failed> {
         if let Some(write) = &mut self.write {
-            let _len = write.len;
+            let _len = write.len; // its range
             if write.file.write_all(bytes).is_ok() {
                 write.came += bytes.len() as u64;
                 return Ok(());
@@ -137,19 +138,13 @@ impl<R: Files + Clone + Drop> PageDisk for FolderDisk<R> {
 
     fn get(&mut self, page: PageNo, off: u64, out: &mut [u8]) -> Result<(), Failed> {
         let len = out.len() as u64;
-        if read_at(&self.rt, &mut self.place, page, off, out).is_err() {
-            self.faults = self.faults.saturating_add(1);
-            return Err(Failed);
-        }
+        let answer = read_at(&self.rt, &mut self.place, page, off, out);
+        counted(answer, &mut self.faults)?;
         self.meter = self.meter.saturating_add(len);
         Ok(())
     }
 
     fn remove(&mut self, page: PageNo) -> Result<(), Failed> {
-        if remove(&self.rt, &mut self.place, page).is_err() {
-            self.faults = self.faults.saturating_add(1);
-            return Err(Failed);
-        }
-        Ok(())
+        counted(remove(&self.rt, &mut self.place, page), &mut self.faults)
     }
 }

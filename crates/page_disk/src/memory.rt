@@ -117,6 +117,7 @@ impl PageDisk for MemoryDisk {
             × Rose self.old.faults self.new.faults }
         ensures memory { IsErrOf result PutFault.NoMemory → (open_in self.new ≡ None)
             × (Some self.new.changes ≡ Some self.old.changes) × (self.new.faults ≡ self.old.faults) }
+        ensures good { OnOk result (self.new.faults ≡ self.old.faults) }
         ensures later { self.old.faults ≤ self.new.faults }
         ensures meter { self.new.meter ≡ self.old.meter }
 
@@ -162,6 +163,7 @@ impl PageDisk for MemoryDisk {
         ensures failed { OnErr result ((open_in self.new ≡ None)
             × (Some self.new.changes ≡ with_torn (open_in self.old) (Some self.old.changes))
             × Rose self.old.faults self.new.faults) }
+        ensures good { OnOk result (self.new.faults ≡ self.old.faults) }
         ensures later { self.old.faults ≤ self.new.faults }
         ensures meter { self.new.meter ≡ self.old.meter }
 
@@ -199,6 +201,7 @@ impl PageDisk for MemoryDisk {
         ensures failed { OnErr result
             ((Some self.new.changes ≡ with_torn (open_in self.old) (Some self.old.changes))
             × Rose self.old.faults self.new.faults) }
+        ensures good { OnOk result (self.new.faults ≡ self.old.faults) }
         ensures later { self.old.faults ≤ self.new.faults }
         ensures meter { self.new.meter ≡ self.old.meter }
 
@@ -236,6 +239,7 @@ impl PageDisk for MemoryDisk {
         ensures bytes { OnOk result (IsSomeAnd (last_put page.0 self.old.changes)
             (λ bytes. out.new ≡ take (length out.old) (drop off bytes))) }
         ensures failed { OnErr result (Rose self.old.faults self.new.faults) }
+        ensures good { OnOk result (self.new.faults ≡ self.old.faults) }
         ensures later { self.old.faults ≤ self.new.faults }
         ensures meter { MatchResult result
             (λ _. self.new.meter ≡ min (self.old.meter + length out.old) (2 ^ 64 - 1))
@@ -273,6 +277,7 @@ impl PageDisk for MemoryDisk {
         ensures failed { OnErr result
             ((Some self.new.changes ≡ with_change (Left page) (Some self.old.changes))
             × Rose self.old.faults self.new.faults) }
+        ensures good { OnOk result (self.new.faults ≡ self.old.faults) }
         ensures later { self.old.faults ≤ self.new.faults }
         ensures meter { self.new.meter ≡ self.old.meter }
 

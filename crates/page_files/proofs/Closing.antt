@@ -7,14 +7,14 @@ use Rattle.std.proofs.Math.Seq.{set-get_or}
 use Rattle.std.proofs.lemmas.List.{append-nil, get_or-append-add, get_or-drop, length-append, length-drop, length-map, length-take-le, take_more}
 use Rattle.std.proofs.lemmas.List.Edits.{map_over_more}
 use Rattle.std.proofs.lemmas.List.Sums.{sum_by-append}
-use Rattle.blob_source.specs.Faults.{Rose}
+use Rattle.blob_source.specs.Faults.{Rose, RoseBy}
 use Rattle.page_disk.specs.declared.change.Change.{Change}
 use Rattle.page_disk.specs.Changes.{with_change}
 use Rattle.page_files.specs.declared.ending.Closed.{Closed}
 use Rattle.page_files.specs.declared.page.Page.{Page}
 use Rattle.page_files.specs.declared.page.Page.TheVariants.{Torn, Whole, Asked}
 use Rattle.page_files.specs.Pages.{is_unasked, page_at}
-use Rattle.page_files.specs.Files.{all_asked, removal, removals, unasked_from, Closes, RoseBy}
+use Rattle.page_files.specs.Files.{all_asked, removal, removals, unasked_from, Closes}
 use Rattle.page_files.specs.Endings.{counted}
 
 asked_page : (page : Page) → is_unasked page ≡ false → Asked ≡ page

@@ -1,10 +1,11 @@
 -- Page files with what is reserved and the job in flight, and what each call does to them. Own.
-use Rattle.std.specs.Prelude.{ℕ, ◌≡◌, ◌+◌, ◌-◌, ◌^◌, ◌≤◌, ◌⊎◌, ◌||◌, ◌&&◌, Bool, true, false, List, [], ◌∷◌, ◌++◌, not, map, fold, set, length, Option, Some, None, is_some, is_none, nat_eq, if◌then◌else◌}
+use Rattle.std.specs.Prelude.{ℕ, ◌≡◌, ◌+◌, ◌-◌, ◌≤◌, ◌||◌, ◌&&◌, Bool, true, false, List, [], ◌∷◌, ◌++◌, not, map, fold, set, length, Option, Some, None, is_some, is_none, nat_eq, if◌then◌else◌}
 use Rattle.std.specs.Option.{option_map}
 use Rattle.std.specs.List.{count_by, list_any, position}
 use Rattle.blob_words.specs.declared.number.PieceNo.{PieceNo}
 use Rattle.blob_words.specs.declared.number.PageNo.{PageNo}
 use Rattle.blob_words.specs.declared.number.JobNo.{JobNo}
+use Rattle.blob_source.specs.Faults.{RoseBy}
 use Rattle.page_disk.specs.declared.change.Change.{Change}
 use Rattle.page_disk.specs.declared.change.Change.TheVariants.{Remove, Left}
 use Rattle.page_disk.specs.Changes.{removes, writes}
@@ -142,10 +143,6 @@ removals (page ∷ pages) (one ∷ goes) = removal page one ∷ removals pages g
 -- every page was asked for
 abbrev pub all_asked : List Page → List Page
 all_asked pages = map (λ page. Asked) pages
-
--- a count rose by at least so much, or stands at the greatest that a 64-bit number holds
-abbrev pub RoseBy : ℕ → ℕ → ℕ → Type 0
-RoseBy faults old new = (old + faults ≤ new) ⊎ (2 ^ 64 - 1 ≤ new)
 
 -- the end: each page not asked for yet is asked for once, rising, whether it goes or is left
 pub record Closes (pages : List Page) (old new : Option (List Change)) (count later : ℕ) (closed : Closed) : Type 0 where

@@ -13,7 +13,7 @@ use Rattle.page_files.specs.declared.held.Held.{Held}
 
 -- the write of these bytes to a page: it is put, or torn by a fault that was counted, or did not begin for want of memory
 abbrev pub Wrote : PageNo → List ℕ → Option (List Change) → Option (List Change) → ℕ → ℕ → Result Unit PutFault → Type 0
-Wrote page bytes old new count later (Ok done) = new ≡ with_change (Put page bytes) old
+Wrote page bytes old new count later (Ok done) = (new ≡ with_change (Put page bytes) old) × (later ≡ count)
 Wrote page bytes old new count later (Err faults.Failed) = (new ≡ with_change (Torn page) old) × Rose count later
 Wrote page bytes old new count later (Err faults.NoMemory) = (new ≡ old) × (later ≡ count)
 

@@ -91,6 +91,21 @@ impl PageFiles {
         self.files
     }
 
+    /// How many page numbers were used: the next page has this number.
+    pub fn page_numbers(&self) -> u32
+        ensures value { result ≡ length self.now.pages }
+        ensures most { result ≤ 2 ^ 31 }
+    {
+        self.table.len() as u32
+    }
+
+    /// How many jobs were started: the next job has this number.
+    pub fn jobs_started(&self) -> u32
+        ensures { result ≡ self.now.jobs }
+    {
+        self.jobs
+    }
+
     /// Whether no call has turned paging off.
     pub fn paging(&self) -> bool
         ensures { result ≡ self.now.paging }

@@ -16,7 +16,7 @@ use std::alloc::Global;
 pub enum ReadFault {
     // The disk failed; its count of faults rose.
     Unread,
-    // Want of memory; the disk is as it was.
+    // Want of memory, before the first read.
     NoMemory,
 }
 
@@ -36,6 +36,7 @@ fn read_at<D: PageDisk>(
     ensures len { length buffer.new ≡ length buffer.old }
     ensures bytes { OnOk result (IfSome (D.changes disk.old) (λ changes. buffer.new
         ≡ spliced start (range_of page changes held.now) buffer.old)) }
+    ensures good { OnOk result (D.faults disk.new ≡ D.faults disk.old) }
     ensures failed { OnErr result (Rose (D.faults disk.old) (D.faults disk.new)) }
     ensures later { D.faults disk.old ≤ D.faults disk.new }
     ensures read { OnOk result (D.meter disk.new ≡ min (D.meter disk.old + held.now.len) (2 ^ 64 - 1)) }
@@ -62,6 +63,7 @@ fn read_pieces<D: PageDisk>(
     ensures len { length buffer.new ≡ length buffer.old }
     ensures bytes { OnOk result (IfSome (D.changes disk.old) (λ changes. buffer.new
         ≡ read_of page changes pieces.now)) }
+    ensures good { OnOk result (D.faults disk.new ≡ D.faults disk.old) }
     ensures failed { OnErr result (Rose (D.faults disk.old) (D.faults disk.new)) }
     ensures later { D.faults disk.old ≤ D.faults disk.new }
     ensures read { OnOk result (min (D.meter disk.new) (2 ^ 64 - 1)
@@ -96,7 +98,10 @@ pub fn read_all<D: PageDisk>(
     ensures len { IfOk result (λ bytes. length bytes.items ≡ bytes_of pieces.now) }
     ensures bytes { IfOk result (λ bytes. IfSome (D.changes disk.old) (λ changes. bytes.items
         ≡ read_of page changes pieces.now)) }
+    ensures good { OnOk result (D.faults disk.new ≡ D.faults disk.old) }
     ensures unread { IsErrOf result ReadFault.Unread → Rose (D.faults disk.old) (D.faults disk.new) }
+    ensures memory { IsErrOf result ReadFault.NoMemory →
+        (D.faults disk.new ≡ D.faults disk.old) × (D.meter disk.new ≡ D.meter disk.old) }
     ensures later { D.faults disk.old ≤ D.faults disk.new }
     ensures read { IfOk result (λ _. min (D.meter disk.new) (2 ^ 64 - 1)
         ≡ min (D.meter disk.old + bytes_of pieces.now) (2 ^ 64 - 1)) }

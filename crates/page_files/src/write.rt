@@ -23,6 +23,7 @@ fn append_all<D: PageDisk>(disk: &mut D, bytes: &[u8]) -> Result<(), Failed>
     ensures failed { OnErr result ((D.writing disk.new ≡ None)
         × (D.changes disk.new ≡ with_torn (D.writing disk.old) (D.changes disk.old))
         × Rose (D.faults disk.old) (D.faults disk.new)) }
+    ensures good { OnOk result (D.faults disk.new ≡ D.faults disk.old) }
     ensures later { D.faults disk.old ≤ D.faults disk.new }
     ensures meter { D.meter disk.new ≡ D.meter disk.old }
 {
@@ -48,6 +49,7 @@ fn append_items<D: PageDisk>(disk: &mut D, pieces: &[Held], shares: &Shares) -> 
     ensures failed { OnErr result ((D.writing disk.new ≡ None)
         × (D.changes disk.new ≡ with_torn (D.writing disk.old) (D.changes disk.old))
         × Rose (D.faults disk.old) (D.faults disk.new)) }
+    ensures good { OnOk result (D.faults disk.new ≡ D.faults disk.old) }
     ensures later { D.faults disk.old ≤ D.faults disk.new }
     ensures meter { D.meter disk.new ≡ D.meter disk.old }
 {

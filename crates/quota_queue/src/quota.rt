@@ -1,4 +1,4 @@
-ghost use Rattle.std.specs.Prelude.{ℕ, ◌≡◌, ◌+◌, ◌-◌, ◌<◌, ◌≤◌, ◌++◌, ◌==◌, [], ◌∷◌, false, drop, length, nat_eq, nat_le, slice_get, IfNone, IfOk, IfSome, IsSomeAnd, OnErr, OnOk};
+ghost use Rattle.std.specs.Prelude.{ℕ, ◌≡◌, ◌+◌, ◌-◌, ◌^◌, ◌<◌, ◌≤◌, ◌++◌, ◌==◌, [], ◌∷◌, false, drop, length, nat_eq, nat_le, slice_get, IfNone, IfOk, IfSome, IsSomeAnd, OnErr, OnOk};
 ghost use Rattle.std.specs.List.{IsDistinct, position};
 ghost use Rattle.std.specs.Map.{keys_of};
 ghost use Rattle.quota_queue.specs.Queue.{is_waiting, without};
@@ -57,6 +57,7 @@ impl Quota {
     /// How many blobs wait; each name waits once.
     pub fn waiting(&self) -> usize
         ensures value { result ≡ length self.now.waiting }
+        ensures small { length self.now.waiting < 2 ^ 63 }
         ensures apart { IsDistinct nat_eq (keys_of self.now.waiting) }
     {
         self.waiting.len()

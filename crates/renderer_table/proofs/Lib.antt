@@ -1,2 +1,4 @@
 pub mod Numbers
 pub mod Changes
+pub mod Lookups
+pub mod Counting

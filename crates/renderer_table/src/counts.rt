@@ -57,8 +57,10 @@ impl Counts {
     /// One fewer on a blob that has one.
     pub fn drop_one(&mut self, blob: BlobName)
         requires { 0 < count_on blob self.old }
-        ensures { self.new ≡ one_fewer blob self.old }
+        ensures fewer { self.new ≡ one_fewer blob self.old }
+        ensures ordered { IsStrictlySortedBy nat_cmp (keys_of self.old) }
     {
+        let _count = self.counts.len(); // says that the names are in order
         let count = self.count_on(blob);
         if count == 1 {
             let _ = self.counts.remove(&blob.number());

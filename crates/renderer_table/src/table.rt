@@ -1,10 +1,11 @@
-ghost use Rattle.std.specs.Prelude.{◌≡◌, ◌<◌, ◌≤◌, ◌^◌, [], None, Some, false, drop, is_some, slice_get, IfErr, IfNone, IfOk, IsSome, MatchResult, OnErr, OnOk, OnSome};
+ghost use Rattle.std.specs.Prelude.{ℕ, ◌≡◌, ◌+◌, ◌-◌, ◌<◌, ◌≤◌, ◌^◌, [], None, Some, false, drop, is_some, slice_get, IfErr, IfNone, IfOk, IfSome, IsSome, MatchResult, OnErr, OnOk, OnSome};
 ghost use Rattle.std.specs.Option.{option_copied, option_map};
 ghost use Rattle.std.specs.List.Sorted.{IsStrictlySortedBy};
 ghost use Rattle.std.specs.Ordering.{nat_cmp};
 ghost use Rattle.std.specs.Map.{keys_of, remove_entry};
 ghost use Rattle.std.specs.BTreeMap.{is_at};
 ghost use Rattle.renderer_table.specs.Counts.{count_on, one_fewer, one_more};
+ghost use Rattle.renderer_table.specs.Counted.{origin_at, ChangesCount, Dies, Spawns};
 ghost use Rattle.renderer_table.specs.Table.{count_of, counted_in, counts_in, counts_of, drop_fault, living_of, pass_fault, spawn_fault, spawned_in, was_spawned, with_counts, IsCause, IsPassCause};
 
 use crate::fault::{DropFault, PassFault, SpawnFault};
@@ -27,6 +28,7 @@ pub struct Renderers {
 }
 
 impl Model for Renderers {
+    ghost use Rattle.renderer_table.specs.Counted.{origin_at, ChangesCount, Dies, Spawns};
     ghost use Rattle.renderer_table.specs.Table.{Table};
 
     ghost Value = { Table };
@@ -53,8 +55,9 @@ fn add_at(living: &mut BTreeMap<u32, Living>, id: u32, blob: BlobName) -> Result
 // One handle fewer on a blob on which the renderer has one.
 fn drop_at(living: &mut BTreeMap<u32, Living>, id: u32, blob: BlobName)
     requires { 0 < count_on blob (counts_in id living.old.entries) }
-    ensures { living.new.entries ≡ counted_in id
+    ensures fewer { living.new.entries ≡ counted_in id
         (one_fewer blob (counts_in id living.old.entries)) living.old.entries }
+    ensures ordered { IsStrictlySortedBy nat_cmp (keys_of (counts_in id living.old.entries)) }
 {
     if let Some(one) = living.get_mut(&id) {
         one.counts.drop_one(blob);
@@ -67,6 +70,7 @@ fn pop_at(living: &mut BTreeMap<u32, Living>, id: u32) -> Option<(BlobName, u64)
     ensures rest { living.new.entries ≡ counted_in id
         (drop 1 (counts_in id living.old.entries)) living.old.entries }
     ensures ordered { IsStrictlySortedBy nat_cmp (keys_of (counts_in id living.old.entries)) }
+    ensures living_ordered { IsStrictlySortedBy nat_cmp (keys_of living.old.entries) }
 {
     match living.get_mut(&id) {
         Some(one) => one.counts.pop_first(),
@@ -131,6 +135,7 @@ impl Renderers {
     /// A new renderer, under a number that was never spawned.
     pub fn spawn(&mut self, id: RendererId, origin: &Origin) -> Result<(), SpawnFault>
         ensures ok { OnOk result (self.new ≡ spawned_in id.0 origin.now self.old) }
+        ensures changes { OnOk result (Spawns id.0 origin.now self.old self.new) }
         ensures none_due { OnOk result (spawn_fault id.0 self.old ≡ None) }
         ensures fault { IfErr result (λ fault. (self.new ≡ self.old)
             × IsCause fault (spawn_fault id.0 self.old)) }
@@ -146,7 +151,7 @@ impl Renderers {
 
     /// The origin of a living renderer.
     pub fn origin_of(&self, id: RendererId) -> Option<&Origin>
-        ensures { option_copied result ≡ option_map (λ one. one.origin) (living_of id.0 self.now) }
+        ensures { option_copied result ≡ origin_at id.0 self.now }
     {
         let one = self.find(id)?;
         Some(&one.origin)
@@ -168,6 +173,8 @@ impl Renderers {
         requires room { count_of id.0 blob self.old < 2 ^ 63 }
         ensures ok { OnOk result
             (self.new ≡ with_counts id.0 (one_more blob (counts_of id.0 self.old)) self.old) }
+        ensures changes { OnOk result
+            (ChangesCount (λ count. count + 1) id.0 blob self.old self.new) }
         ensures err { OnErr result (self.new ≡ self.old) }
     {
         add_at(&mut self.living, id.0, blob)
@@ -183,6 +190,8 @@ impl Renderers {
         requires { count_of to.0 blob self.old < 2 ^ 63 }
         ensures ok { OnOk result
             (self.new ≡ with_counts to.0 (one_more blob (counts_of to.0 self.old)) self.old) }
+        ensures changes { OnOk result
+            (ChangesCount (λ count. count + 1) to.0 blob self.old self.new) }
         ensures none_due { OnOk result (pass_fault from to blob self.old ≡ None) }
         ensures fault { IfErr result (λ fault. (self.new ≡ self.old)
             × IsPassCause fault (pass_fault from to blob self.old)) }
@@ -206,6 +215,8 @@ impl Renderers {
     pub fn drop_one(&mut self, id: RendererId, blob: BlobName) -> Result<(), DropFault>
         ensures ok { OnOk result
             (self.new ≡ with_counts id.0 (one_fewer blob (counts_of id.0 self.old)) self.old) }
+        ensures changes { OnOk result
+            (ChangesCount (λ count. count - 1) id.0 blob self.old self.new) }
         ensures err { OnErr result (self.new ≡ self.old) }
         ensures fault { MatchResult result
             (λ _. drop_fault id blob self.old ≡ None)
@@ -231,6 +242,9 @@ impl Renderers {
         ensures none { IfNone result (self.new ≡ record self.old {
           living = remove_entry (is_at (nat_cmp id.0)) self.old.living;
         }) }
+        ensures taken { IfSome result (λ taken. (count_of id.0 taken.0 self.old ≡ taken.1)
+            × ChangesCount (λ _. 0) id.0 taken.0 self.old self.new) }
+        ensures dead { IfNone result (Dies id.0 self.old self.new) }
         ensures ordered { IsStrictlySortedBy nat_cmp (keys_of (counts_of id.0 self.old)) }
     {
         if let Some(taken) = pop_at(&mut self.living, id.0) {
@@ -244,6 +258,10 @@ impl Renderers {
     pub fn first_alive(&self) -> Option<RendererId>
         ensures value { option_map (λ id. id.0) result
             ≡ option_map (λ entry. entry.0) (slice_get self.now.living 0) }
+        ensures alive { IfSome result (λ id. IsSome (living_of id.0 self.now)) }
+        ensures least { IfSome result (λ id. (other : ℕ)
+            → IsSome (living_of other self.now) → id.0 ≤ other) }
+        ensures nobody { IfNone result ((other : ℕ) → living_of other self.now ≡ None) }
         ensures ordered { IsStrictlySortedBy nat_cmp (keys_of self.now.living) }
     {
         let _count = self.living.len();

@@ -1,4 +1,5 @@
 pub mod SlotLemmas
+pub mod Lengths
 pub mod PieceLemmas
 pub mod ReadyLemmas
 pub mod FaultLemmas

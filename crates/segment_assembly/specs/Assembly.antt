@@ -1,5 +1,6 @@
 -- The segments of a shared plan, what is sent by them, and the pieces of it. Own.
-use Rattle.std.specs.Prelude.{ℕ, ◌≡◌, ◌<◌, ◌+◌, ◌==◌, false, List, [], ◌++◌, Option, Some, None, length, map, sum, take, drop, flat_map, nat_le, slice_index_or, if◌then◌else◌}
+use Rattle.std.specs.Prelude.{ℕ, ◌≡◌, ◌<◌, ◌+◌, ◌==◌, false, List, [], ◌++◌, Option, Some, None, length, map, sum, take, drop, flat_map, nat_le, slice_index_or, if◌then◌else◌, IfSome}
+use Rattle.std.specs.Int.{div_ceil}
 use Rattle.std.specs.Option.{is_some, unwrap_or}
 use Rattle.segment_assembly.specs.declared.segment_fault.SegmentFault.{SegmentFault}
 use Rattle.segment_assembly.specs.declared.segment_fault.SegmentFault.TheVariants.{BadSegment, Taken, Length}
@@ -26,6 +27,11 @@ segment_fault sending seg len =
 -- the segment is one of them, wasn't taken, and has its length
 abbrev pub CanTake : Sending → ℕ → ℕ → Type 0
 CanTake sending seg len = (seg < length sending.taken) × (is_some (slice_index_or sending.taken seg None) ≡ false) × (len ≡ want sending seg)
+
+-- there are as many segments as the own bytes make, and each that was taken has its length
+pub record AreSegments (sending : Sending) : Type 0 where
+  pub number : length sending.taken ≡ div_ceil (sum sending.parts) sending.segment
+  pub lengths : (seg : ℕ) → IfSome (slice_index_or sending.taken seg None) (λ bytes. length bytes ≡ want sending seg)
 
 -- what is sent: the segments by rising number, one after the other
 abbrev pub sent : Sending → List ℕ

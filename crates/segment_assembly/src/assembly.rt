@@ -1,7 +1,7 @@
 ghost use Rattle.std.specs.Prelude.{◌≡◌, ◌+◌, ◌≤◌, ◌<◌, length, sum, replicate, slice_set, count_by, Some, None, IfNone, IfOk, OnOk, OnErr, MatchResult};
 ghost use Rattle.std.specs.Int.{div_ceil};
 ghost use Rattle.std.specs.Option.{is_none};
-ghost use Rattle.segment_assembly.specs.Assembly.{CanTake, segment_fault, pieces_of};
+ghost use Rattle.segment_assembly.specs.Assembly.{AreSegments, CanTake, segment_fault, pieces_of};
 
 use crate::copies::{none_came, write_at, zeros};
 use crate::pieces::cut_parts;
@@ -115,7 +115,8 @@ impl Assembly {
 
     /// The number of segments that were not taken.
     pub fn missing(&self) -> u32
-        ensures { result ≡ count_by is_none self.now.taken }
+        ensures value { result ≡ count_by is_none self.now.taken }
+        ensures segments { AreSegments self.now }
     {
         self.missing
     }
@@ -123,7 +124,8 @@ impl Assembly {
     /// The pieces of the bytes that were sent, in order.
     pub fn into_pieces(self) -> Result<Vec<Octets>, NoMemory>
         requires { count_by is_none self.taken ≡ 0 }
-        ensures { IfOk result (λ pieces. pieces.items ≡ pieces_of self) }
+        ensures pieces { IfOk result (λ pieces. pieces.items ≡ pieces_of self) }
+        ensures segments { AreSegments self }
     {
         cut_parts(
             self.alloc,

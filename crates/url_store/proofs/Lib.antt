@@ -1,3 +1,4 @@
 pub mod Seen
+pub mod Changed
 pub mod Owned
 pub mod Agreement

@@ -1,3 +1,4 @@
 pub mod Keys
 pub mod Urls
 pub mod Owners
+pub mod Changes

@@ -1,7 +1,8 @@
-ghost use Rattle.std.specs.Prelude.{ℕ, ◌≡◌, ◌<◌, [], Some, None, is_some, length, slice_get, IfErr, IfOk, IsSomeAnd, MatchOption, MatchResult, OnErr, OnOk};
+ghost use Rattle.std.specs.Prelude.{ℕ, ◌≡◌, ◌<◌, ◌≤◌, List, [], Some, None, is_some, length, slice_get, IfErr, IfNone, IfOk, IfSome, IsSomeAnd, MatchOption, MatchResult, OnErr, OnOk, OnSome};
 ghost use Rattle.std.specs.Option.{option_copied, option_map};
 ghost use Rattle.std.specs.Str.{bytes_eq};
 ghost use Rattle.url_store.specs.Urls.{own_url, owned_by, resolved, url_at, with_url, without, without_first, IsBlobUrl, IsCause};
+ghost use Rattle.url_store.specs.Changes.{Comes, Goes, GoesFrom};
 
 use crate::fault::{NoUrl, UrlFault};
 use crate::form::{is_blob_url, without_fragment};
@@ -26,7 +27,7 @@ pub struct UrlStore {
 }
 
 impl Model for UrlStore {
-    ghost use Rattle.std.specs.Prelude.{ℕ, List};
+    ghost use Rattle.std.specs.Prelude.{ℕ, ◌≤◌, List, length};
     ghost use Rattle.url_store.specs.declared.url.Url.{Url};
     ghost use Rattle.url_store.specs.Owners.{Agree};
 
@@ -34,7 +35,8 @@ impl Model for UrlStore {
 
     ghost view = { λ store. store.urls };
 
-    ghost invariant = { λ store. Agree store.urls store.owners.entries };
+    ghost invariant = { λ store. Agree store.urls store.owners.entries
+        × (length store.urls ≤ 16384) };
 }
 
 fn is_same(one: &[u8], other: &[u8]) -> bool
@@ -57,15 +59,18 @@ impl UrlStore {
 
     /// How many URLs there are.
     pub fn count(&self) -> usize
-        ensures { result ≡ length self.now }
+        ensures value { result ≡ length self.now }
+        ensures most { result ≤ 16384 }
     {
         self.urls.len()
     }
 
     // Puts a URL under a text that has none.
     fn put(&mut self, text: &UrlText, url: Url) -> Result<(), NoMemory>
-        requires { url_at text.now self.old ≡ None }
+        requires absent { url_at text.now self.old ≡ None }
+        requires room { length self.old < 16384 }
         ensures ok { OnOk result (self.new ≡ with_url text.now url self.old) }
+        ensures comes { OnOk result (Comes text.now url self.old self.new) }
         ensures err { OnErr result (self.new ≡ self.old) }
     {
         let key = Vec::from_slice(self.alloc, text.as_slice())?;
@@ -89,6 +94,8 @@ impl UrlStore {
     ) -> Result<(), UrlFault>
         ensures ok { OnOk result (self.new ≡ with_url text.now
             (record { blob = blob; owner = owner; origin = origin.now }) self.old) }
+        ensures comes { OnOk result (Comes text.now
+            (record { blob = blob; owner = owner; origin = origin.now }) self.old self.new) }
         ensures none_due { OnOk result (IsBlobUrl origin.now text.now
             × (url_at text.now self.old ≡ None) × (length self.old < 16384)) }
         ensures fault { IfErr result (λ fault. (self.new ≡ self.old)
@@ -132,6 +139,7 @@ impl UrlStore {
         requires { own_url owner.0 text.now self.old ≡ url_at text.now self.old }
         ensures blob { result ≡ option_map (λ url. url.blob) (url_at text.now self.old) }
         ensures rest { self.new ≡ without text.now self.old }
+        ensures goes { OnSome result (Goes text.now self.old self.new) }
     {
         let url = self.urls.remove(text)?;
         take_text(&mut self.owners, owner.0, text);
@@ -140,10 +148,11 @@ impl UrlStore {
 
     /// Takes a URL out where this renderer owns it, and answers its blob.
     pub fn remove(&mut self, owner: RendererId, text: &UrlText) -> Option<BlobName>
-        ensures { MatchOption result
+        ensures cases { MatchOption result
             ((own_url owner.0 text.now self.old ≡ None) × (self.new ≡ self.old))
             (λ blob. IsSomeAnd (own_url owner.0 text.now self.old) (λ url. url.blob ≡ blob)
             × (self.new ≡ without text.now self.old)) }
+        ensures goes { OnSome result (Goes text.now self.old self.new) }
     {
         if !self.is_own(owner, text) {
             return None;
@@ -171,6 +180,9 @@ impl UrlStore {
         ensures first { result ≡ option_map (λ entry. entry.1.blob)
             (slice_get (owned_by owner.0 self.old) 0) }
         ensures rest { self.new ≡ without_first owner.0 self.old }
+        ensures goes { IfSome result (λ blob. GoesFrom owner.0 blob self.old self.new) }
+        ensures none { IfNone result ((self.new ≡ self.old)
+            × ((text : List ℕ) → own_url owner.0 text self.old ≡ None)) }
     {
         let text = pop_text(&mut self.owners, owner.0)?;
         let url = self.urls.remove(text.as_slice())?;

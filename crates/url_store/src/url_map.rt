@@ -1,10 +1,11 @@
-ghost use Rattle.std.specs.Prelude.{ℕ, ◌≡◌, [], length, OnErr, OnOk};
+ghost use Rattle.std.specs.Prelude.{ℕ, ◌≡◌, [], None, length, OnErr, OnOk, OnSome};
 ghost use Rattle.std.specs.Option.{option_copied};
 ghost use Rattle.std.specs.List.Sorted.{IsStrictlySortedBy};
 ghost use Rattle.std.specs.Ordering.{nat_cmp};
 ghost use Rattle.std.specs.Cmp.Lexicographic.{slice_cmp};
 ghost use Rattle.std.specs.Map.{keys_of};
 ghost use Rattle.url_store.specs.Urls.{url_at, with_url, without};
+ghost use Rattle.url_store.specs.Changes.{Comes, Goes};
 
 use crate::url::Url;
 use blob_words::NoMemory;
@@ -55,6 +56,8 @@ impl UrlMap {
     /// Puts a URL to its place.
     pub fn insert(&mut self, text: Vec<u8>, url: Url) -> Result<(), NoMemory>
         ensures ok { OnOk result (self.new ≡ with_url text.items url self.old) }
+        ensures comes { OnOk result (url_at text.items self.old ≡ None
+            → Comes text.items url self.old self.new) }
         ensures err { OnErr result (self.new ≡ self.old) }
         ensures ordered { IsStrictlySortedBy (slice_cmp nat_cmp) (keys_of self.old) }
     {
@@ -67,6 +70,7 @@ impl UrlMap {
     pub fn remove(&mut self, text: &[u8]) -> Option<Url>
         ensures value { result ≡ url_at text.now self.old }
         ensures rest { self.new ≡ without text.now self.old }
+        ensures goes { OnSome result (Goes text.now self.old self.new) }
         ensures ordered { IsStrictlySortedBy (slice_cmp nat_cmp) (keys_of self.old) }
     {
         let _count = self.urls.len();

@@ -67,8 +67,8 @@ impl PageFiles {
         ensures closed { D.writing disk.new ≡ None }
         ensures agrees { IfSome (D.changes disk.new) (Agrees self.new.pages) }
         ensures ends { JobEnds job
-            (scene self.old shares.old (D.changes disk.old) (D.faults disk.old))
-            (scene self.new shares.new (D.changes disk.new) (D.faults disk.new)) result }
+            (scene self.old shares.old (D.changes disk.old) (D.faults disk.old) (D.meter disk.old))
+            (scene self.new shares.new (D.changes disk.new) (D.faults disk.new) (D.meter disk.new)) result }
         ensures later { D.faults disk.old ≤ D.faults disk.new }
         ensures meter { D.meter disk.new ≡ D.meter disk.old }
     {
@@ -103,8 +103,8 @@ impl PageFiles {
         requires numbers { length self.old.pages < 2 ^ 31 }
         ensures closed { D.writing disk.new ≡ None }
         ensures agrees { IfSome (D.changes disk.new) (Agrees self.new.pages) }
-        ensures ends { LeftWritten (scene self.old shares.old (D.changes disk.old) (D.faults disk.old))
-            (scene self.new shares.new (D.changes disk.new) (D.faults disk.new)) result }
+        ensures ends { LeftWritten (scene self.old shares.old (D.changes disk.old) (D.faults disk.old) (D.meter disk.old))
+            (scene self.new shares.new (D.changes disk.new) (D.faults disk.new) (D.meter disk.new)) result }
         ensures later { D.faults disk.old ≤ D.faults disk.new }
         ensures meter { D.meter disk.new ≡ D.meter disk.old }
     {
@@ -147,8 +147,8 @@ impl PageFiles {
         ensures closed { D.writing disk.new ≡ None }
         ensures agrees { IfSome (D.changes disk.new) (Agrees self.new.pages) }
         ensures ends { IfSome (item_at shares.old slot) (λ item. StoreEnds (piece_of item) slot bytes.now
-            (scene self.old shares.old (D.changes disk.old) (D.faults disk.old))
-            (scene self.new shares.new (D.changes disk.new) (D.faults disk.new)) result) }
+            (scene self.old shares.old (D.changes disk.old) (D.faults disk.old) (D.meter disk.old))
+            (scene self.new shares.new (D.changes disk.new) (D.faults disk.new) (D.meter disk.new)) result) }
         ensures later { D.faults disk.old ≤ D.faults disk.new }
         ensures meter { D.meter disk.new ≡ D.meter disk.old }
     {
@@ -182,8 +182,8 @@ impl PageFiles {
         ensures closed { D.writing disk.new ≡ None }
         ensures agrees { IfSome (D.changes disk.new) (Agrees self.new.pages) }
         ensures ends { StoreEnds held.piece held.slot bytes.now
-            (scene self.old shares.old (D.changes disk.old) (D.faults disk.old))
-            (scene self.new shares.new (D.changes disk.new) (D.faults disk.new)) result }
+            (scene self.old shares.old (D.changes disk.old) (D.faults disk.old) (D.meter disk.old))
+            (scene self.new shares.new (D.changes disk.new) (D.faults disk.new) (D.meter disk.new)) result }
         ensures later { D.faults disk.old ≤ D.faults disk.new }
         ensures meter { D.meter disk.new ≡ D.meter disk.old }
     {

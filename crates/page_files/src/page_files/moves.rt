@@ -57,8 +57,8 @@ impl PageFiles {
         ensures closed { D.writing disk.new ≡ None }
         ensures agrees { IfSome (D.changes disk.new) (Agrees self.new.pages) }
         ensures ends { MoveEnds job
-            (scene self.old shares.old (D.changes disk.old) (D.faults disk.old))
-            (scene self.new shares.new (D.changes disk.new) (D.faults disk.new)) result }
+            (scene self.old shares.old (D.changes disk.old) (D.faults disk.old) (D.meter disk.old))
+            (scene self.new shares.new (D.changes disk.new) (D.faults disk.new) (D.meter disk.new)) result }
         ensures later { D.faults disk.old ≤ D.faults disk.new }
         ensures meter { min (D.meter disk.old) (2 ^ 64 - 1) ≤ D.meter disk.new }
         ensures read { IfOk result (λ _. min (D.meter disk.new) (2 ^ 64 - 1)
@@ -101,8 +101,8 @@ impl PageFiles {
         requires numbers { length self.old.pages < 2 ^ 31 }
         ensures closed { D.writing disk.new ≡ None }
         ensures agrees { IfSome (D.changes disk.new) (Agrees self.new.pages) }
-        ensures ends { LeftMoved source (scene self.old shares.old (D.changes disk.old) (D.faults disk.old))
-            (scene self.new shares.new (D.changes disk.new) (D.faults disk.new)) result }
+        ensures ends { LeftMoved source (scene self.old shares.old (D.changes disk.old) (D.faults disk.old) (D.meter disk.old))
+            (scene self.new shares.new (D.changes disk.new) (D.faults disk.new) (D.meter disk.new)) result }
         ensures later { D.faults disk.old ≤ D.faults disk.new }
         ensures meter { min (D.meter disk.old) (2 ^ 64 - 1) ≤ D.meter disk.new }
         ensures read { IfOk result (λ _. min (D.meter disk.new) (2 ^ 64 - 1)

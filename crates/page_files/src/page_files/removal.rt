@@ -36,6 +36,7 @@ impl PageFiles {
         ensures agrees { IfSome (D.changes disk.new) (Agrees self.new.pages) }
         ensures files { self.new ≡ asked place self.old }
         ensures changes { D.changes disk.new ≡ with_change (removal place result) (D.changes disk.old) }
+        ensures good { result ≡ true → D.faults disk.new ≡ D.faults disk.old }
         ensures left { result ≡ false → Rose (D.faults disk.old) (D.faults disk.new) }
         ensures later { D.faults disk.old ≤ D.faults disk.new }
         ensures meter { D.meter disk.new ≡ D.meter disk.old }
@@ -59,6 +60,8 @@ impl PageFiles {
         ensures files { self.new ≡ asked place self.old }
         ensures changes { D.changes disk.new ≡ option_map_or
             (λ goes. with_change (removal place goes) (D.changes disk.old)) result (D.changes disk.old) }
+        ensures good { IfSome result (λ goes. goes ≡ true → D.faults disk.new ≡ D.faults disk.old) }
+        ensures none { IfNone result (D.faults disk.new ≡ D.faults disk.old) }
         ensures left { IfSome result (λ goes. goes ≡ false → Rose (D.faults disk.old) (D.faults disk.new)) }
         ensures later { D.faults disk.old ≤ D.faults disk.new }
         ensures meter { D.meter disk.new ≡ D.meter disk.old }
@@ -81,6 +84,7 @@ impl PageFiles {
         ensures changes { D.changes disk.new ≡ option_map_or
             (λ gone. with_change (removal gone.0.0 gone.1) (D.changes disk.old)) result (D.changes disk.old) }
         ensures none { IfNone result (D.faults disk.new ≡ D.faults disk.old) }
+        ensures good { IfSome result (λ gone. gone.1 ≡ true → D.faults disk.new ≡ D.faults disk.old) }
         ensures left { IfSome result (λ gone. gone.1 ≡ false → Rose (D.faults disk.old) (D.faults disk.new)) }
         ensures later { D.faults disk.old ≤ D.faults disk.new }
         ensures meter { D.meter disk.new ≡ D.meter disk.old }

@@ -1,5 +1,5 @@
 -- The law as it was proved.
-use Rattle.blob_model.proofs.FrontLemmas.{fronts}
+use Rattle.blob_model.proofs.legal.Fronts.{fronts}
 use Rattle.blob_model.proofs.laws.fronts_are_legal.Goals as goal
 
 pub returns : goal.returns

@@ -1,5 +1,5 @@
 -- The law as it was proved.
-use Rattle.blob_model.proofs.LiveLemmas.{live_is_least}
+use Rattle.blob_model.proofs.live.Least.{live_is_least}
 use Rattle.blob_model.proofs.laws.live_is_least.Goals as goal
 
 pub returns : goal.returns

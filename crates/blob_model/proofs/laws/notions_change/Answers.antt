@@ -1,5 +1,5 @@
 -- The laws as they were proved.
-use Rattle.blob_model.proofs.ChangeLemmas.{change_laws}
+use Rattle.blob_model.proofs.changes.Notions.{change_laws}
 use Rattle.blob_model.proofs.laws.notions_change.Goals as goal
 
 pub returns : goal.returns

@@ -1,5 +1,5 @@
 -- The law as it was proved.
-use Rattle.blob_model.proofs.OneLemmas.{one_transcript}
+use Rattle.blob_model.proofs.legal.SingleTranscript.{one_transcript}
 use Rattle.blob_model.proofs.laws.transcript_is_one.Goals as goal
 
 pub returns : goal.returns

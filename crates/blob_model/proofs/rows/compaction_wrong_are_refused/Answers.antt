@@ -1,7 +1,7 @@
 -- Each session is computed.
 use Rattle.std.proofs.Common.{refl}
 use Rattle.blob_model.specs.WrongCompaction.{wrong_compaction}
-use Rattle.blob_model.proofs.Sessions.{all_illegal}
+use Rattle.blob_model.proofs.tested.Sessions.{all_illegal}
 use Rattle.blob_model.proofs.rows.compaction_wrong_are_refused.Goals as goal
 
 pub returns : goal.returns

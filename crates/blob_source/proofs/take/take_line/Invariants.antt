@@ -1,11 +1,11 @@
-use Rattle.std.proofs.Common.{◌≤◌, ◌+◌, ◌-◌, ◌^◌, length}
+use Rattle.std.proofs.Common.{◌≡◌, ◌+◌, ◌-◌, ◌^◌, length}
 use Rattle.std.specs.Io.KnownBytes.{prepend_known}
 use Rattle.blob_source.proofs.LineLemmas.{Ongoing}
 use Rattle.blob_source.proofs.take.take_line.Given as goal
 
 abbrev pub invariant-pieces : goal.invariant-pieces
 invariant-pieces g l = record {
-  later : g.S.Source.faults l.fn.source ≤ g.S.Source.faults l.source;
+  good : g.S.Source.faults l.source ≡ g.S.Source.faults l.fn.source;
   ongoing :
       Ongoing (prepend_known l.fn.ahead (g.S.Source.left l.fn.source)) (prepend_known l.ahead (g.S.Source.left l.source)) l.line;
 }

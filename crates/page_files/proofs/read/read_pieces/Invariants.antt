@@ -11,7 +11,7 @@ invariant-loop-held g l = record {
   closed : g.D.PageDisk.writing l.disk ≡ None;
   same : g.D.PageDisk.changes l.disk ≡ g.D.PageDisk.changes l.fn.disk;
   bytes : IfSome (g.D.PageDisk.changes l.fn.disk) (λ changes. take l.start l.buffer ≡ read_of l.page changes (take l.held-index l.pieces));
-  later : g.D.PageDisk.faults l.fn.disk ≤ g.D.PageDisk.faults l.disk;
+  good : g.D.PageDisk.faults l.disk ≡ g.D.PageDisk.faults l.fn.disk;
   read : min (g.D.PageDisk.meter l.disk) (2 ^ 64 - 1) ≡ min (g.D.PageDisk.meter l.fn.disk + l.start) (2 ^ 64 - 1);
   meter : min (g.D.PageDisk.meter l.fn.disk) (2 ^ 64 - 1) ≤ g.D.PageDisk.meter l.disk;
 }

@@ -1,6 +1,7 @@
 use Rattle.std.proofs.Common.{◌≡◌, ◌+◌, ◌≤◌, drop, length, take, Option, sym, subst}
 use Rattle.std.specs.Prelude.{IfSome, IsSomeAnd, OnOk}
 use Rattle.data_handles.specs.Handles.{Handle}
+use Rattle.std.proofs.lemmas.Result.{on_ok_weaker}
 use Rattle.data_handles.proofs.Written
 use Rattle.data_handles.proofs.slots.Slots.read.Goals as goal
 
@@ -26,6 +27,17 @@ returns-clause-bytes g c =
     let there = Written.slot_there seen items k place c.index_mut.ensures.value within in
     subst (λ (object : Option Handle). OnOk c.read.result (IsSomeAnd object (λ handle. IfSome handle.told (λ bytes. c.read.new.out ≡ take (length c.args.out.now) (drop c.args.off bytes)))))
     (sym (Written.old_object seen items past k place there)) c.read.ensures.bytes
+
+pub returns-clause-good : goal.returns-clause-good
+returns-clause-good g c =
+    let seen = g.H.DataHandle.seen in
+    let items = c.args.self.now.slots.items in
+    let past = c.args.self.now.past in
+    let k = c.args.k in
+    let place = c.index_mut.result.now in
+    let within = Written.place_within seen (λ handle. c.args.off + length c.args.out.now ≤ handle.size) items past k c.requires in
+    let there = Written.slot_there seen items k place c.index_mut.ensures.value within in
+    on_ok_weaker c.read.result (λ same. Written.same_places seen items past k place c.read.new.self there same) c.read.ensures.good
 
 pub returns-clause-failed : goal.returns-clause-failed
 returns-clause-failed g c =

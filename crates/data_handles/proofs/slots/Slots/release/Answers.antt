@@ -34,7 +34,7 @@ invariant_of-self g c =
     let gaps = Written.gaps_more items k place c.release-faults.new.self c.index_mut.ensures.value within some none in
     let fits : past ≤ 2 ^ 64 * sum_by Written.gap items = c.args.self.now.past_fits in
     let faults : c.from.result < 2 ^ 64 = rw c.from.ensures c.release-faults.type_inv in
-    record { past_fits = omega (arith, gaps, fits, faults) }
+    record { few = c.args.self.now.few; past_fits = omega (arith, gaps, fits, faults) }
 
 pub returns-clause-rest : goal.returns-clause-rest
 returns-clause-rest g c =

@@ -27,7 +27,7 @@ returns-in-Ok-write_bytes-clause-agrees g c =
     let files = kept_by c.args.self.now c.next_page.new.self c.end_job.new.self c.keep-list.new.self left c.in-Ok.next is c.in-Ok.ensures.ok.1 c.end_job.ensures c.keep-list.ensures.files in
     agrees_then (g.D.PageDisk.changes c.write_bytes.new.disk) c.keep-list.new.self.pages c.release_all.new.self.pages c.release_all.ensures.agrees
     (kept_agrees (g.D.PageDisk.changes c.args.disk.now) (g.D.PageDisk.changes c.write_bytes.new.disk) c.args.self.now.pages c.keep-list.new.self.pages c.in-Ok.next.page
-    c.as_slice.result.now (bytes_of left) (placed 0 left) is.page (rw (← c.read_all.ensures.same) c.in-Ok-write_bytes.ensures.ends) (ap (λ (files : Files). files.pages) files) c.requires.agrees)
+    c.as_slice.result.now (bytes_of left) (placed 0 left) is.page (rw (← c.read_all.ensures.same) c.in-Ok-write_bytes.ensures.ends.0) (ap (λ (files : Files). files.pages) files) c.requires.agrees)
 
 pub returns-in-Ok-write_bytes-clause-ends : goal.returns-in-Ok-write_bytes-clause-ends
 returns-in-Ok-write_bytes-clause-ends g c =
@@ -41,9 +41,10 @@ returns-in-Ok-write_bytes-clause-ends g c =
       is.page,
       rw (← c.requires.left) (c.keep-list.ensures.list ∙ is.list),
       rw (← c.requires.left) (c.release_all.ensures.files ∙ ap (without_pieces c.args.source.0 left) files),
-      rw (← c.requires.left) (moved_change old mid new c.in-Ok.next.page c.args.source c.as_slice.result.now left c.read_all.ensures.same c.in-Ok-write_bytes.ensures.ends (rw c.as_slice.ensures.value c.in-Ok-read_all.ensures.bytes)),
-      tells_on old mid new _ c.read_all.ensures.same c.in-Ok-write_bytes.ensures.ends,
+      rw (← c.requires.left) (moved_change old mid new c.in-Ok.next.page c.args.source c.as_slice.result.now left c.read_all.ensures.same c.in-Ok-write_bytes.ensures.ends.0 (rw c.as_slice.ensures.value c.in-Ok-read_all.ensures.bytes)),
+      tells_on old mid new _ c.read_all.ensures.same c.in-Ok-write_bytes.ensures.ends.0,
       next_turned (page_no (length c.args.self.now.pages)) left (left_of c.args.self.now.job) c.in-Ok.next c.args.shares.now c.keep-list.new.shares is c.requires.left c.keep-list.ensures.items,
+      (c.in-Ok-write_bytes.ensures.ends.1 ∙ c.in-Ok-read_all.ensures.good, rw (← c.requires.left) (rw c.write_bytes.ensures.meter c.in-Ok-read_all.ensures.read)),
     )
 
 pub returns-in-Err-Failed-clause-agrees : goal.returns-in-Err-Failed-clause-agrees

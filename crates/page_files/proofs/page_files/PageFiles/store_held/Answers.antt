@@ -24,7 +24,7 @@ returns-in-Ok-write_bytes-clause-agrees g c =
     let held = c.args.held in
     let files = stored_by c.args.self.now c.next_page.new.self c.unreserve.new.self c.keep.new.self held c.in-Ok.next is c.in-Ok.ensures.ok.1 c.unreserve.ensures c.keep.ensures.files in
     kept_agrees (g.D.PageDisk.changes c.args.disk.now) (g.D.PageDisk.changes c.write_bytes.new.disk) c.args.self.now.pages c.keep.new.self.pages c.in-Ok.next.page
-    c.args.bytes.now held.len (alone held.piece held.slot held.len ∷ []) is.page c.in-Ok-write_bytes.ensures.ends (ap (λ (files : Files). files.pages) files) c.requires.agrees
+    c.args.bytes.now held.len (alone held.piece held.slot held.len ∷ []) is.page c.in-Ok-write_bytes.ensures.ends.0 (ap (λ (files : Files). files.pages) files) c.requires.agrees
 
 pub returns-in-Ok-write_bytes-clause-ends : goal.returns-in-Ok-write_bytes-clause-ends
 returns-in-Ok-write_bytes-clause-ends g c =
@@ -32,8 +32,9 @@ returns-in-Ok-write_bytes-clause-ends g c =
     let files = stored_by c.args.self.now c.next_page.new.self c.unreserve.new.self c.keep.new.self c.args.held c.in-Ok.next is c.in-Ok.ensures.ok.1 c.unreserve.ensures c.keep.ensures.files in (
       is.page,
       rw (← c.requires.len) files,
-      c.in-Ok-write_bytes.ensures.ends,
+      c.in-Ok-write_bytes.ensures.ends.0,
       λ other. c.keep.ensures.items other ∙ ap (λ (pieces : List Held). turned c.in-Ok.next.page pieces other (share_at c.args.shares.now other)) is.pieces,
+      c.in-Ok-write_bytes.ensures.ends.1,
     )
 
 pub returns-in-Err-Failed-clause-agrees : goal.returns-in-Err-Failed-clause-agrees

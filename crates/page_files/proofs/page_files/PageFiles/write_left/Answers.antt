@@ -27,7 +27,7 @@ returns-in-Ok-write_items-clause-agrees g c =
     let left = c.args.left.now in
     let files = kept_by c.args.self.now c.next_page.new.self c.end_job.new.self c.keep-list.new.self left c.in-Ok.next is c.in-Ok.ensures.ok.1 c.end_job.ensures c.keep-list.ensures.files in
     kept_agrees (g.D.PageDisk.changes c.args.disk.now) (g.D.PageDisk.changes c.write_items.new.disk) c.args.self.now.pages c.keep-list.new.self.pages c.in-Ok.next.page
-    (bytes_in c.args.shares.now left) (bytes_of left) (placed 0 left) is.page c.in-Ok-write_items.ensures.ends (ap (λ (files : Files). files.pages) files) c.requires.agrees
+    (bytes_in c.args.shares.now left) (bytes_of left) (placed 0 left) is.page c.in-Ok-write_items.ensures.ends.0 (ap (λ (files : Files). files.pages) files) c.requires.agrees
 
 pub returns-in-Ok-write_items-clause-ends : goal.returns-in-Ok-write_items-clause-ends
 returns-in-Ok-write_items-clause-ends g c =
@@ -38,8 +38,9 @@ returns-in-Ok-write_items-clause-ends g c =
       is.page,
       rw (← c.requires.left) (c.keep-list.ensures.list ∙ is.list),
       rw (← c.requires.left) files,
-      rw (← c.requires.left) c.in-Ok-write_items.ensures.ends,
+      rw (← c.requires.left) c.in-Ok-write_items.ensures.ends.0,
       next_turned (page_no (length c.args.self.now.pages)) left (left_of c.args.self.now.job) c.in-Ok.next c.args.shares.now c.keep-list.new.shares is c.requires.left c.keep-list.ensures.items,
+      c.in-Ok-write_items.ensures.ends.1,
     )
 
 pub returns-in-Err-Failed-clause-agrees : goal.returns-in-Err-Failed-clause-agrees

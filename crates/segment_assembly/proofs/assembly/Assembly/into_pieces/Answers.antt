@@ -3,13 +3,14 @@ use Rattle.std.proofs.Common.{◌≡◌, ℕ, ◌*◌, ◌≤◌, List, IfOk, le
 use Rattle.std.specs.Option.{is_none}
 use Rattle.transport_plan.specs.Spans.{piece_spans}
 use Rattle.transport_plan.proofs.SpanLemmas.{end_within}
-use Rattle.segment_assembly.specs.Assembly.{Sending, bytes_at, pieces_of, sent}
+use Rattle.segment_assembly.specs.Assembly.{AreSegments, Sending, bytes_at, pieces_of, sent}
 use Rattle.segment_assembly.specs.Slots.{slots, sending_of}
+use Rattle.segment_assembly.proofs.Lengths.{are_segments}
 use Rattle.segment_assembly.proofs.SlotLemmas.{all_slots, count_slots}
 use Rattle.segment_assembly.proofs.assembly.Assembly.into_pieces.Goals as goal
 
-pub returns : goal.returns
-returns c =
+pub returns-clause-pieces : goal.returns-clause-pieces
+returns-clause-pieces c =
     let inside = c.self.inside in
     let whole = c.self.invariant in
     let none : count_by is_none (slots inside.segment inside.came.items inside.bytes.items) ≡ 0 =
@@ -21,3 +22,6 @@ returns c =
     let cut = rw (c.as_slice.ensures.value, c.as_slice-2.ensures.value) at c.cut_parts.ensures in
     subst (λ (sending : Sending). IfOk c.cut_parts.result (λ pieces. pieces.items ≡ pieces_of sending)) c.self.view_is
     (subst (λ (bytes : List ℕ). IfOk c.cut_parts.result (λ pieces. pieces.items ≡ map (bytes_at bytes) (piece_spans inside.page 0 inside.parts.items))) (sym all) cut)
+
+pub returns-clause-segments : goal.returns-clause-segments
+returns-clause-segments c = subst AreSegments c.self.view_is (are_segments c.self.inside c.self.invariant)

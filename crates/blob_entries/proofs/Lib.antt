@@ -1,0 +1,9 @@
+pub mod Numbers
+pub mod Counting
+pub mod Soundness
+pub mod Cuts
+pub mod Making
+pub mod Holdings
+pub mod Finishing
+pub mod Leaving
+pub mod Standing

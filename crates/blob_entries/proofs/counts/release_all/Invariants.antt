@@ -1,0 +1,11 @@
+use Rattle.std.proofs.Common.{◌≡◌, ℕ, ◌+◌, ◌<◌, ◌++◌, [], take}
+use Rattle.item_shares.specs.Shares.{item_at}
+use Rattle.blob_entries.specs.Counts.{count_at, freed_by, views_on}
+use Rattle.blob_entries.proofs.counts.release_all.Given as goal
+
+abbrev pub invariant-loop-view : goal.invariant-loop-view
+invariant-loop-view l = record {
+  counts : (slot : ℕ) → count_at l.shares slot + views_on slot (take l.view-index l.views) ≡ count_at l.fn.shares slot;
+  items : (slot : ℕ) → 0 < count_at l.shares slot → item_at l.shares slot ≡ item_at l.fn.shares slot;
+  freed : l.freed ≡ l.fn.freed ++ freed_by l.fn.shares [] (take l.view-index l.views);
+}

@@ -1,0 +1,15 @@
+pub mod Names
+pub mod Statuses
+pub mod Counts
+pub mod Book
+pub mod Changes
+pub mod Sources
+pub mod Holdings
+pub mod Contents
+pub mod Weights
+pub mod Endings
+pub mod Leaving
+pub mod Sound
+pub mod Counted
+pub mod Making
+pub mod Standing

@@ -1,0 +1,5 @@
+pub mod Growth
+pub mod Cells
+pub mod Order
+pub mod Plans
+pub mod PieceNumbers

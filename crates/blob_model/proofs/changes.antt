@@ -1,0 +1,2 @@
+pub mod Notions
+pub mod Places

@@ -1,0 +1,4 @@
+pub mod Counts
+pub mod Steps
+pub mod Groups
+pub mod Numbers

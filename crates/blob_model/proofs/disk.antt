@@ -1,0 +1,11 @@
+pub mod Charges
+pub mod Victims
+pub mod Uses
+pub mod Stock
+pub mod Settling
+pub mod Jobs
+pub mod DryAnswers
+pub mod PageFiles
+pub mod Builds
+pub mod Segments
+pub mod Groups

@@ -1,0 +1,4 @@
+pub mod Kept
+pub mod NewBlobs
+pub mod Lines
+pub mod Groups

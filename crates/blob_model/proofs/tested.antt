@@ -1,0 +1,5 @@
+pub mod Words
+pub mod Answers
+pub mod OwnAnswers
+pub mod Transcripts
+pub mod Sessions

@@ -1,0 +1,12 @@
+pub mod Numbers
+pub mod Striking
+pub mod Putting
+pub mod Depending
+pub mod Passing
+pub mod Sweeping
+pub mod Going
+pub mod Endings
+pub mod Keeping
+pub mod Changing
+pub mod Registering
+pub mod Least

@@ -1,0 +1,2 @@
+//! The types of the store's parts, read as those of the model.
+#![tactic(auto)]

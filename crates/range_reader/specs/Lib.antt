@@ -1,0 +1,5 @@
+pub mod Bytes
+pub mod Places
+pub mod Steps
+pub mod Parts
+pub mod Ends
