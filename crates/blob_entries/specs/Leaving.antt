@@ -1,7 +1,7 @@
 -- Who lives, what is left of an entry, and what goes with it. Own.
 use Rattle.std.specs.List.{list_any}
 use Rattle.std.specs.Option.{option_map, option_map_or}
-use Rattle.std.specs.Prelude.{Bool, List, None, Option, [], false, if◌then◌else◌, nat_lt, set, true, ℕ, ◌++◌, ◌+◌, ◌<◌, ◌||◌, ◌∷◌, ◌≡◌}
+use Rattle.std.specs.Prelude.{Bool, List, None, Option, [], false, if◌then◌else◌, nat_lt, set, sum_by, true, ℕ, ◌++◌, ◌+◌, ◌<◌, ◌||◌, ◌∷◌, ◌≡◌}
 use Rattle.blob_entries.specs.Book.{Book, entry_at, is_unfinished}
 use Rattle.blob_entries.specs.Counts.{count_at, freed_by, views_on}
 use Rattle.blob_entries.specs.Holdings.{held_views}
@@ -10,6 +10,7 @@ use Rattle.blob_entries.specs.Statuses.{is_broken}
 use Rattle.blob_entries.specs.declared.entry.Entry.{Entry}
 use Rattle.blob_items.specs.declared.view.View.{View}
 use Rattle.item_shares.specs.Shares.{item_at}
+use Rattle.item_shares.specs.Weights.{weights}
 use Rattle.item_shares.specs.declared.item.Item.{Item}
 use Rattle.item_shares.specs.declared.shares.Share.{Share}
 
@@ -52,3 +53,4 @@ pub record LetsGo (views : List View) (shares later : List (Option Share)) (free
   pub counts : (slot : ℕ) → count_at later slot + views_on slot views ≡ count_at shares slot
   pub items : (slot : ℕ) → 0 < count_at later slot → item_at later slot ≡ item_at shares slot
   pub given : next ≡ freed ++ freed_by shares [] views
+  pub weighs : (weight : Item → ℕ) → sum_by weight next + weights weight later ≡ sum_by weight freed + weights weight shares

@@ -1,5 +1,7 @@
-ghost use Rattle.std.specs.Prelude.{ℕ, ◌≡◌, ◌+◌, ◌^◌, ◌<◌, ◌≤◌, ◌++◌, [], length, OnOk};
+ghost use Rattle.std.specs.Prelude.{ℕ, ◌≡◌, ◌+◌, ◌^◌, ◌<◌, ◌≤◌, ◌++◌, [], length, sum_by, OnOk};
 ghost use Rattle.item_shares.specs.Shares.{item_at};
+ghost use Rattle.item_shares.specs.Weights.{weights};
+ghost use Rattle.item_shares.specs.declared.item.Item.{Item};
 ghost use Rattle.blob_entries.specs.Counts.{count_at, freed_at, freed_by, one_at, views_on};
 
 use blob_items::View;
@@ -28,6 +30,9 @@ fn release_one(shares: &mut Shares, slot: usize, freed: &mut Items) -> Result<()
     ensures items { OnOk result ((other : ℕ) → 0 < count_at shares.new other
         → item_at shares.new other ≡ item_at shares.old other) }
     ensures freed { OnOk result (freed.new ≡ freed.old ++ freed_at shares.old slot 0) }
+    ensures weighs { OnOk result ((weight : Item → ℕ)
+        → sum_by weight freed.new + weights weight shares.new
+        ≡ sum_by weight freed.old + weights weight shares.old) }
 {
     match shares.release(slot) {
         Some(item) => freed.push(item),
@@ -43,6 +48,9 @@ pub fn release_all(shares: &mut Shares, views: &[View], freed: &mut Items) -> Re
     ensures items { OnOk result ((slot : ℕ) → 0 < count_at shares.new slot
         → item_at shares.new slot ≡ item_at shares.old slot) }
     ensures freed { OnOk result (freed.new ≡ freed.old ++ freed_by shares.old [] views.now) }
+    ensures weighs { OnOk result ((weight : Item → ℕ)
+        → sum_by weight freed.new + weights weight shares.new
+        ≡ sum_by weight freed.old + weights weight shares.old) }
 {
     for view in views {
         release_one(shares, view.slot, freed)?;

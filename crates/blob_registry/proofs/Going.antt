@@ -61,7 +61,8 @@ gone_more views more shares later last freed next final one two = record {
       ∙ ap (λ (items : List Item). freed ++ items)
       (ap (λ (rest : List Item). freed_by shares [] views ++ rest) (sym (freed_shift shares later views [] more one.counts one.items)
       ∙ ap (λ (g : List View). freed_by shares g more) (append-nil views)) ∙ sym (freed_append shares [] views more));
+  weighs = λ weight. two.weighs weight ∙ one.weighs weight;
 }
 
 pub gone_none : (shares : Held) (freed : List Item) → LetsGo [] shares shares freed freed
-gone_none shares freed = record { counts = λ slot. omega arith; items = λ slot some. refl; given = sym (append-nil freed) }
+gone_none shares freed = record { counts = λ slot. omega arith; items = λ slot some. refl; given = sym (append-nil freed); weighs = λ weight. refl }

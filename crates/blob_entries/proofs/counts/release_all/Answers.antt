@@ -40,4 +40,5 @@ loop-view-preserved c =
           ∙ append_assoc c.args.freed.now (freed_by c.args.shares.now [] seen) (freed_at c.loop-view.shares slot 0)
           ∙ ap (λ (items : List Item). c.args.freed.now ++ items) (sym freed)
           ∙ ap (λ (views : List View). c.args.freed.now ++ freed_by c.args.shares.now [] views) (sym more);
+      weighs = λ weight. said.weighs weight ∙ c.loop-view.invariant.weighs weight;
     }
