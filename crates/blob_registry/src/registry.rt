@@ -2,7 +2,7 @@ ghost use Rattle.std.specs.Prelude.{ℕ, ◌≡◌, ◌≢◌, ◌+◌, ◌-◌,
 ghost use Rattle.blob_words.specs.declared.bounds.TheConstants.{MOST_BLOBS};
 ghost use Rattle.std.specs.Option.{option_copied, option_map};
 ghost use Rattle.blob_words.specs.declared.status.Status.TheVariants.{PendingQuota, PendingTransport};
-ghost use Rattle.blob_entries.specs.Book.{book_of, changed, entry_of, views_of};
+ghost use Rattle.blob_entries.specs.Book.{book_of, changed, entry_at, entry_of, views_of};
 ghost use Rattle.blob_entries.specs.Changes.{held_less, held_more, with_bytes, with_mark, with_status};
 ghost use Rattle.blob_entries.specs.Counted.{AreCounted, SameItems};
 ghost use Rattle.blob_entries.specs.Names.{number_of};
@@ -341,6 +341,23 @@ impl Registry {
         ensures { result ≡ name_under self.now number }
     {
         self.table.name_under(number as usize)
+    }
+
+    /// What stands under a build number.
+    pub fn entry_under(&self, number: u32) -> Option<&Entry>
+        ensures { option_copied result ≡ entry_at self.now.entries number }
+    {
+        self.table.entry(number as usize)
+    }
+
+    /// The build number of a name.
+    pub fn number_of(&self, name: BlobName) -> Option<u32>
+        ensures { result ≡ number_of name self.now.names }
+    {
+        // how many there are, so that a place among them is a number
+        let _count = self.table.len();
+        let number = self.table.find(name)?;
+        Some(number as u32)
     }
 
     /// How many blobs stand. It walks over all that were registered.
