@@ -1,0 +1,6 @@
+ghost use Rattle.store_laws.specs.Laws.{FirstLaw};
+
+/// First.
+pub fn first()
+    ensures { FirstLaw }
+{}
