@@ -8,4 +8,7 @@ pub mod PageFiles
 pub mod Tables
 pub mod Uses
 pub mod Stands
-pub mod Laws
+pub mod Settling
+pub mod Having
+pub mod GroupLaws
+pub mod CellLaws
