@@ -6,3 +6,8 @@ pub mod Owners
 pub mod Viewed
 pub mod HeldWeights
 pub mod HeldCounts
+pub mod Having
+pub mod Paired
+pub mod ComingNow
+pub mod ViewHas
+pub mod Coming

@@ -1,6 +1,7 @@
 -- Which entries have a piece: the blobs with an entry, each beside it. Own.
 use Rattle.std.specs.Prelude.{ℕ, ◌≡◌, ◌==◌, ◌&&◌, ◌||◌, not, Bool, true, false, List, [], ◌∷◌, Option, None, Some}
 use Rattle.std.specs.List.{list_any}
+use Rattle.std.specs.Option.{option_map_or}
 use Rattle.blob_words.specs.declared.status.Status.{Status}
 use Rattle.blob_words.specs.declared.status.Status.TheVariants as statuses
 use Rattle.item_shares.specs.declared.shares.Share.{Share}
@@ -32,16 +33,32 @@ is_own_step number (Source name off len) = false
 abbrev pub is_on : List (Option Share) → ℕ → View → Bool
 is_on shares number view = is_number number (piece_at shares view.slot)
 
--- an entry has the piece: a view of one that is done is on its item, or it is one of an unfinished one's own
-abbrev pub has_piece_by : List (Option Share) → ℕ → Status → Entry → Bool
-has_piece_by shares number statuses.Done entry = list_any (is_on shares number) entry.views
-has_piece_by shares number statuses.PendingQuota entry = list_any (is_own_step number) entry.recipe
-has_piece_by shares number statuses.PendingTransport entry = list_any (is_own_step number) entry.recipe
-has_piece_by shares number statuses.PendingReferencedBlobs entry = list_any (is_own_step number) entry.recipe
-has_piece_by shares number status entry = false
+-- what is read off an entry: of the views of one that is done, and of the steps of an unfinished one
+abbrev pub has_by : (View → Bool) → (Step → Bool) → Status → Entry → Bool
+has_by on own statuses.Done entry = list_any on entry.views
+has_by on own statuses.PendingQuota entry = list_any own entry.recipe
+has_by on own statuses.PendingTransport entry = list_any own entry.recipe
+has_by on own statuses.PendingReferencedBlobs entry = list_any own entry.recipe
+has_by on own status entry = false
 
+abbrev pub has : (View → Bool) → (Step → Bool) → Build × Entry → Bool
+has on own pair = has_by on own pair.1.status pair.1
+
+-- an entry has the piece: a view of one that is done is on its item, or it is one of an unfinished one's own
 abbrev pub has_piece : List (Option Share) → ℕ → Build × Entry → Bool
-has_piece shares number pair = has_piece_by shares number pair.1.status pair.1
+has_piece shares number pair = has (is_on shares number) (is_own_step number) pair
+
+-- an entry has the data handle: a view of one that is done is on its item, or one that stands in the recipe of an unfinished one is
+abbrev pub is_range_at : List (Option Share) → ℕ → View → Bool
+is_range_at shares k view = option_map_or (is_range_of k) (item_at shares view.slot) false
+
+abbrev pub is_range_step : List (Option Share) → ℕ → Step → Bool
+is_range_step shares k (Own piece len) = false
+is_range_step shares k (Fixed view) = is_range_at shares k view
+is_range_step shares k (Source name off len) = false
+
+abbrev pub has_slot : List (Option Share) → ℕ → Build × Entry → Bool
+has_slot shares k pair = has (is_range_at shares k) (is_range_step shares k) pair
 
 -- whether an entry isn't broken, and its blob has a cell that passes
 abbrev pub is_unbroken : Status → Bool

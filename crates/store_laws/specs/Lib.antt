@@ -12,3 +12,4 @@ pub mod Settling
 pub mod Having
 pub mod GroupLaws
 pub mod CellLaws
+pub mod ReachLaws

@@ -1,3 +1,4 @@
+ghost use Rattle.store_laws.specs.ReachLaws.{HeldIsReached};
 ghost use Rattle.store_laws.specs.CellLaws.{DenotedLaws};
 ghost use Rattle.store_laws.specs.GroupLaws.{GroupLegal, LateListsKeepLives, OwnLives};
 
@@ -21,4 +22,9 @@ pub fn own_lives()
 /// part of others' cells stand for that part; and what changes no slot's cells changes none of theirs.
 pub fn views_denote_cells()
     ensures { DenotedLaws }
+{}
+
+/// Held.
+pub fn held_is_reached()
+    ensures { HeldIsReached }
 {}
