@@ -28,7 +28,7 @@ any-counted {X = X} test (x ∷ xs) some = go (test x) refl (sum_by-cons (λ (y 
         or_second (test x) (list_any test xs) (rest (omega (arith, some, sums, none)))
 
 -- the slot with a piece
-slot_of : (number : ℕ) (shares : List (Option Share)) → holds_piece shares number ≡ true → (k : ℕ) × (piece_at shares k ≡ Some number)
+pub slot_of : (number : ℕ) (shares : List (Option Share)) → holds_piece shares number ≡ true → (k : ℕ) × (piece_at shares k ≡ Some number)
 slot_of number [] e = absurd (false_true e)
 slot_of number (share ∷ shares) e =
     ⊎_elim (λ (here : is_number number (piece_of_share share) ≡ true). (0, is_some_number number (piece_of_share share) here))

@@ -11,3 +11,4 @@ pub mod Paired
 pub mod ComingNow
 pub mod ViewHas
 pub mod Coming
+pub mod Closing
