@@ -38,7 +38,7 @@ row_at s h stands build = cond (stands build.name) (Some (row_of s h build)) Non
 abbrev pub AreRowed : Session → History → (ℕ → Bool) → List Build → List (Option Row) → Type 0
 AreRowed s h stands list rows = map (option_map bare) rows ≡ map (row_at s h stands) list
 
-same_gathers : (coming : Coming) → gathers (without_slots coming) ≡ gathers coming
+pub same_gathers : (coming : Coming) → gathers (without_slots coming) ≡ gathers coming
 same_gathers settled = refl
 same_gathers waiting = refl
 same_gathers (gathering segments) = refl

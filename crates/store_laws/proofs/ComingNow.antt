@@ -214,3 +214,32 @@ module _ (s : Session) (h : History) (build : Build) where
       go : (b : Bool) → is_unfinished h build.name ≡ b → is_writing (cond b (coming_by s h build build.plan) settled) ≡ true → status_now s h build ≡ statuses.PendingTransport
       go true at f = writing_by build.plan refl at f
       go false at f = absurd (false_true f)
+
+  -- what is gathered is what the history says, and its plan is shared
+  gathering_as : (plan : Option Plan) → build.plan ≡ plan → gathers (coming_by s h build plan) ≡ true
+      → (coming_by s h build plan ≡ gathering (gathered_of s h build)) × ((n : ℕ) × (build.plan ≡ Some (plans.Shared n)))
+  gathering_as (Some (plans.Shared n)) at e = (go (is_granted h build) (has_all s.limits h build) e, (n, at))
+    where
+      go : (a b : Bool) → gathers (cond a (cond b settled (gathering (gathered_of s h build))) waiting) ≡ true
+          → cond a (cond b settled (gathering (gathered_of s h build))) waiting ≡ gathering (gathered_of s h build)
+      go true false f = refl
+      go true true f = absurd (false_true f)
+      go false b f = absurd (false_true f)
+  gathering_as (Some (plans.File n)) at e = absurd (go (has_all s.limits h build) e)
+    where
+      go : (b : Bool) → gathers (cond b settled (writing [] (came_of s h build))) ≡ true → ⊥
+      go true f = false_true f
+      go false f = false_true f
+  gathering_as None at e = absurd (false_true e)
+  gathering_as (Some plans.None) at e = absurd (false_true e)
+  gathering_as (Some plans.Inline) at e = absurd (false_true e)
+  gathering_as (Some plans.OutOfMemory) at e = absurd (false_true e)
+  gathering_as (Some (plans.TooMany what)) at e = absurd (false_true e)
+
+  pub gathering_is : gathers (coming_of s h build) ≡ true → (coming_of s h build ≡ gathering (gathered_of s h build)) × ((n : ℕ) × (build.plan ≡ Some (plans.Shared n)))
+  gathering_is e = go (is_unfinished h build.name) e
+    where
+      go : (b : Bool) → gathers (cond b (coming_by s h build build.plan) settled) ≡ true
+          → (cond b (coming_by s h build build.plan) settled ≡ gathering (gathered_of s h build)) × ((n : ℕ) × (build.plan ≡ Some (plans.Shared n)))
+      go true f = gathering_as build.plan refl f
+      go false f = absurd (false_true f)

@@ -12,3 +12,6 @@ pub mod ComingNow
 pub mod ViewHas
 pub mod Coming
 pub mod Closing
+pub mod Sums
+pub mod Charges
+pub mod Tallies

@@ -1,4 +1,4 @@
-ghost use Rattle.store_laws.specs.ReachLaws.{HeldIsReached};
+ghost use Rattle.store_laws.specs.ReachLaws.{ChargesAreTold, HeldIsReached};
 ghost use Rattle.store_laws.specs.CellLaws.{DenotedLaws};
 ghost use Rattle.store_laws.specs.GroupLaws.{GroupLegal, LateListsKeepLives, OwnLives};
 
@@ -27,4 +27,10 @@ pub fn views_denote_cells()
 /// Held.
 pub fn held_is_reached()
     ensures { HeldIsReached }
+{}
+
+/// The bytes of the items in memory and those that are gathered are the bytes of the reached pieces
+/// in memory, and the reserved ones those of the reached pieces that are reserved.
+pub fn charges_are_told()
+    ensures { ChargesAreTold }
 {}
