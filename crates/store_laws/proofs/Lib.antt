@@ -1,0 +1,17 @@
+pub mod LeftFiles
+pub mod GroupMade
+pub mod OwnLives
+pub mod Denoted
+pub mod Owners
+pub mod Viewed
+pub mod HeldWeights
+pub mod HeldCounts
+pub mod Having
+pub mod Paired
+pub mod ComingNow
+pub mod ViewHas
+pub mod Coming
+pub mod Closing
+pub mod Sums
+pub mod Charges
+pub mod Tallies

@@ -1,0 +1,15 @@
+pub mod Cells
+pub mod Items
+pub mod Weights
+pub mod Rows
+pub mod Recipes
+pub mod Outlines
+pub mod PageFiles
+pub mod Tables
+pub mod Uses
+pub mod Stands
+pub mod Settling
+pub mod Having
+pub mod GroupLaws
+pub mod CellLaws
+pub mod ReachLaws

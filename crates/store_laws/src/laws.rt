@@ -1,0 +1,36 @@
+ghost use Rattle.store_laws.specs.ReachLaws.{ChargesAreTold, HeldIsReached};
+ghost use Rattle.store_laws.specs.CellLaws.{DenotedLaws};
+ghost use Rattle.store_laws.specs.GroupLaws.{GroupLegal, LateListsKeepLives, OwnLives};
+
+/// A line's own answers and the seven lists of settling, each after the one before, make a legal
+/// group.
+pub fn group_legal()
+    ensures { GroupLegal }
+{}
+
+/// The lists behind the second drops change no life.
+pub fn late_lists_keep_lives()
+    ensures { LateListsKeepLives }
+{}
+
+/// Whatever lives after a line's own answers lived before it, or the line built it.
+pub fn own_lives()
+    ensures { OwnLives }
+{}
+
+/// The cells of views that are joined are those of the one and then of the other; views with a
+/// part of others' cells stand for that part; and what changes no slot's cells changes none of theirs.
+pub fn views_denote_cells()
+    ensures { DenotedLaws }
+{}
+
+/// Held.
+pub fn held_is_reached()
+    ensures { HeldIsReached }
+{}
+
+/// The bytes of the items in memory and those that are gathered are the bytes of the reached pieces
+/// in memory, and the reserved ones those of the reached pieces that are reserved.
+pub fn charges_are_told()
+    ensures { ChargesAreTold }
+{}

@@ -1,0 +1,4 @@
+//! When the parts of a store stand for a history, and laws of what follows.
+#![tactic(auto)]
+
+mod laws;
