@@ -6,3 +6,7 @@ pub mod Owners
 pub mod Viewed
 pub mod HeldWeights
 pub mod HeldCounts
+pub mod PageNumbers
+pub mod PageCharges
+pub mod DiskCharges
+pub mod JobCharges

@@ -1,4 +1,5 @@
 ghost use Rattle.store_laws.specs.CellLaws.{DenotedLaws};
+ghost use Rattle.store_laws.specs.DiskLaws.{DiskIsCharged, WritesAreNumbered};
 ghost use Rattle.store_laws.specs.GroupLaws.{GroupLegal, LateListsKeepLives, OwnLives};
 
 /// A line's own answers and the seven lists of settling, each after the one before, make a legal
@@ -21,4 +22,15 @@ pub fn own_lives()
 /// part of others' cells stand for that part; and what changes no slot's cells changes none of theirs.
 pub fn views_denote_cells()
     ensures { DenotedLaws }
+{}
+
+/// In a legal transcript each use of a page number stands at that number.
+pub fn writes_are_numbered()
+    ensures { WritesAreNumbered }
+{}
+
+/// Where what is held is what is reached, page files charge what the tally says of the disk, and as
+/// many of them are held.
+pub fn disk_is_charged()
+    ensures { DiskIsCharged }
 {}
