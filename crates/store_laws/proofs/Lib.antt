@@ -15,3 +15,7 @@ pub mod Closing
 pub mod Sums
 pub mod Charges
 pub mod Tallies
+pub mod PageNumbers
+pub mod PageCharges
+pub mod DiskCharges
+pub mod JobCharges

@@ -5,6 +5,7 @@ pub mod Rows
 pub mod Recipes
 pub mod Outlines
 pub mod PageFiles
+pub mod DiskLaws
 pub mod Tables
 pub mod Uses
 pub mod Stands

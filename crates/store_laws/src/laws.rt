@@ -1,5 +1,6 @@
 ghost use Rattle.store_laws.specs.ReachLaws.{ChargesAreTold, HeldIsReached};
 ghost use Rattle.store_laws.specs.CellLaws.{DenotedLaws};
+ghost use Rattle.store_laws.specs.DiskLaws.{DiskIsCharged, WritesAreNumbered};
 ghost use Rattle.store_laws.specs.GroupLaws.{GroupLegal, LateListsKeepLives, OwnLives};
 
 /// A line's own answers and the seven lists of settling, each after the one before, make a legal
@@ -33,4 +34,15 @@ pub fn held_is_reached()
 /// in memory, and the reserved ones those of the reached pieces that are reserved.
 pub fn charges_are_told()
     ensures { ChargesAreTold }
+{}
+
+/// In a legal transcript each use of a page number stands at that number.
+pub fn writes_are_numbered()
+    ensures { WritesAreNumbered }
+{}
+
+/// Where what is held is what is reached, page files charge what the tally says of the disk, and as
+/// many of them are held.
+pub fn disk_is_charged()
+    ensures { DiskIsCharged }
 {}
