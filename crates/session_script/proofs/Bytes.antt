@@ -3,19 +3,19 @@ use Rattle.std.proofs.Common.{◌≡◌, ℕ, ◌<◌, ◌≤◌, ◌^◌, suc, 
 use Rattle.std.specs.Prelude.{nat_le, ◌&&◌, ◌||◌, ℤ, pos, negsuc, FitsSigned}
 use Rattle.std.specs.Fmt.{signed_decimal}
 use Rattle.std.specs.Int.{to_be_bytes, w64, w128}
-use Rattle.std.specs.List.{list_all}
+use Rattle.std.specs.List.{AllPass, list_all}
 use Rattle.std.proofs.lemmas.Bool.{and_parts, leb-true}
 use Rattle.std.proofs.lemmas.Bool.Decides.{nat_tests}
 use Rattle.std.proofs.lemmas.Fmt.{decimal_is_IsNumeral}
-use Rattle.std.proofs.lemmas.List.Elements.{All-cons, All-nil, All-from_get_or}
+use Rattle.std.proofs.lemmas.List.Elements.{All-cons, All-head, All-nil, All-tail, All-from_get_or}
 use Rattle.std.proofs.lemmas.Str.Parse.{digit_at}
 use Rattle.uuid.specs.Text.{by_index, hex_digit, nibble, digit_place, is_hyphen_place, lower}
 use Rattle.uuid.proofs.TextLemmas.{by_index_at, by_index_length, nibble_small}
 use Rattle.hex.specs.Hex.{IsBytes, encode_lower}
+use Rattle.hex_lanes.specs.Digits.{is_lower_digit}
+use Rattle.hex_lanes.proofs.Spelling.{AllPass-encode_lower, digit_holds}
 use Rattle.blob_words.specs.BlobName.{name_text}
 use Rattle.session_script.specs.Fields.{hex_text, len_text, place_text}
-use Rattle.session_script.specs.Reading.{is_lower_digit}
-use Rattle.session_script.proofs.Hex.{encoded_lower}
 use Rattle.session_script.proofs.Numbers.{signed_small}
 
 -- what holds of the digits in lower case, and of `-` and `_`
@@ -34,15 +34,14 @@ lower_one : (P : ℕ → Type 0) → OfDigits P → (c : ℕ) → (b d : Bool) �
 lower_one P of c true d number letter h = let p = and_parts _ _ number in of.digit c (leb-true 48 c p.0) (leb-true c 57 p.1)
 lower_one P of c false d number letter h = let p = and_parts _ _ (letter ∙ h) in of.letter c (leb-true 97 c p.0) (leb-true c 102 p.1)
 
-lower_all : (P : ℕ → Type 0) → OfDigits P → (text : List ℕ) → list_all is_lower_digit text ≡ true → All P text
+lower_all : (P : ℕ → Type 0) → OfDigits P → (text : List ℕ) → AllPass is_lower_digit text → All P text
 lower_all P of [] all = All-nil P
 lower_all P of (c ∷ text) all =
-    let parts = and_parts (is_lower_digit c) (list_all is_lower_digit text) all in
-    All-cons P c text (lower_one P of c _ _ refl refl parts.0) (lower_all P of text parts.1)
+    All-cons P c text (lower_one P of c _ _ refl refl (All-head digit_holds c text all)) (lower_all P of text (All-tail digit_holds c text all))
 
 pub hex_all : (P : ℕ → Type 0) → OfDigits P → (bytes : List ℕ) → IsBytes bytes → All P (hex_text bytes)
 hex_all P of [] fits = All-cons P 45 [] of.dash (All-nil P)
-hex_all P of (byte ∷ bytes) fits = lower_all P of (encode_lower (byte ∷ bytes)) (encoded_lower (byte ∷ bytes) fits)
+hex_all P of (byte ∷ bytes) fits = lower_all P of (encode_lower (byte ∷ bytes)) (AllPass-encode_lower (byte ∷ bytes) fits)
 
 letter_fits : (c : ℕ) → c < 16 → is_lower_digit (hex_digit lower c) ≡ true
 letter_fits c small = grind (arith, nat_tests)

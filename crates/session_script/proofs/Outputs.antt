@@ -4,9 +4,9 @@ use Rattle.std.specs.Io.KnownBytes.{Appends}
 use Rattle.std.proofs.KnownBytes.{Appends-trans, Appends-nil}
 use Rattle.std.proofs.lemmas.List.{append_assoc, append-nil, length-append, length-drop, take-append-drop, take_at}
 use Rattle.hex.specs.Hex.{encode_lower, encode_with, lower_digits}
+use Rattle.hex_lanes.proofs.Spelling.{encode_with-append}
 use Rattle.blob_words.specs.declared.fault.Failed.{Failed}
 use Rattle.blob_source.specs.Faults.{Rose}
-use Rattle.session_script.proofs.Hex.{encode_with-append}
 use Rattle.session_script.specs.Output.{Output, output, Puts, Stops, IsPut, IsStreamed}
 
 -- a count that rose later rose since before

@@ -87,3 +87,21 @@ split_some c text at found =
 -- a line has a text, though it may be empty
 pub split_not_empty : (c : ℕ) (text : List ℕ) → split c text ≡ [] → ⊥
 split_not_empty c text none = let count = length-slice_split (is_at c) text in omega (arith, count, ap length none)
+
+-- a text of one field is that field
+pub split_one : (c : ℕ) (text : List ℕ) → length (split c text) ≡ 1 → split c text ≡ text ∷ []
+split_one c text one = go (position (is_at c) text) refl
+  where
+    go : (found : Option ℕ) → position (is_at c) text ≡ found → split c text ≡ text ∷ []
+    go None none = split_none c text none
+    go (Some at) found =
+        let two = ap length (split_some c text at found) in
+        let rest = length-slice_split (is_at c) (drop (at + 1) text) in
+        absurd (omega (arith, one, two, rest))
+
+-- one field more was passed over
+pub one_passed : (c : ℕ) (text : List ℕ) (at : ℕ) → position (is_at c) text ≡ Some at
+    → (length (split c text) ≡ 1 + length (split c (drop (at + 1) text))) × (at < length text)
+one_passed c text at found =
+    let h = at_some (position_or_len (is_at c) text) (length text) at found in
+    (omega (arith, ap length (split_some c text at found)), omega (arith, h.0, h.1))

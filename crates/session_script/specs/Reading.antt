@@ -1,5 +1,5 @@
 -- What the readers of fields answer.
-use Rattle.std.specs.Prelude.{ℕ, ℤ, ◌≡◌, ◌≢◌, ◌⊎◌, FitsSigned, ◌==◌, ◌&&◌, ◌||◌, not, nat_le, Bool, List, [], ◌∷◌, ◌++◌, Option, Some, None, Result, Ok, Err, length, slice_index}
+use Rattle.std.specs.Prelude.{ℕ, ℤ, ◌≡◌, ◌≢◌, ◌⊎◌, FitsSigned, ◌==◌, ◌&&◌, ◌||◌, not, Bool, List, [], ◌∷◌, ◌++◌, Option, Some, None, Result, Ok, Err, length, slice_index}
 use Rattle.std.specs.Fmt.{signed_decimal}
 use Rattle.std.specs.Int.{w64}
 use Rattle.std.specs.List.{slice_split}
@@ -43,7 +43,3 @@ IsSignedFault fault text = ((z : ℤ) → FitsSigned w64 z → text ≢ signed_d
 -- digits that have no sign, and no zero in front of further digits
 abbrev pub is_plain : List ℕ → Bool
 is_plain text = not (slice_index text 0 == 43) && (not (slice_index text 0 == 48) || (length text == 1))
-
--- a digit of a byte, in lower case
-abbrev pub is_lower_digit : ℕ → Bool
-is_lower_digit byte = (nat_le 48 byte && nat_le byte 57) || (nat_le 97 byte && nat_le byte 102)

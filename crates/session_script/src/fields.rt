@@ -1,6 +1,6 @@
 //! The fields of a line or of a part, taken one by one.
 
-ghost use Rattle.std.specs.Prelude.{◌≡◌, ◌==◌, ◌∷◌, position, count_by, [], option_map, MatchOption, length};
+ghost use Rattle.std.specs.Prelude.{◌≡◌, ◌==◌, ◌∷◌, position, [], option_map, MatchOption, length};
 ghost use Rattle.session_script.specs.Kind.{IsFirstFault, IsRowFault};
 ghost use Rattle.std.specs.Prelude.{◌≤◌};
 ghost use Rattle.session_script.specs.Reading.{split, split_rest, IsReading, IsTaken};
@@ -18,15 +18,19 @@ pub struct Fields<'a> {
     separator: u8,
     /// The bytes behind the separator after the last field that was taken; none at the end.
     rest: Option<&'a [u8]>,
+    /// How many fields are left.
+    left: usize,
 }
 
 impl<'a> Model for Fields<'a> {
-    ghost use Rattle.std.specs.Prelude.{ℕ, List, option_map};
+    ghost use Rattle.std.specs.Prelude.{◌≡◌, ℕ, List, length, option_map};
     ghost use Rattle.session_script.specs.Reading.{split_rest};
 
     ghost Value = { List (List ℕ) };
 
     ghost view = { λ fields. split_rest fields.separator (option_map (λ text. text.now) fields.rest) };
+
+    ghost invariant = { λ fields. fields.left ≡ length (split_rest fields.separator (option_map (λ text. text.now) fields.rest)) };
 }
 
 fn find_separator(separator: u8, text: &[u8]) -> Option<usize>
@@ -35,17 +39,18 @@ fn find_separator(separator: u8, text: &[u8]) -> Option<usize>
     memchr(separator, text)
 }
 
-fn count_separators(separator: u8, text: &[u8]) -> usize
-    ensures { result ≡ count_by (λ byte. byte == separator) text.now }
-{
-    text.iter().filter(|byte| **byte == separator).count()
-}
-
+// Goes from separator to separator.
 fn count_fields(separator: u8, text: &[u8]) -> usize
     ensures { result ≡ length (split separator text.now) }
 {
-    let _len = text.len();
-    count_separators(separator, text) + 1
+    let mut count = 1;
+    let mut rest = text;
+    while let Some(at) = find_separator(separator, rest) {
+        let (_, after) = rest.split_at(at + 1);
+        rest = after;
+        count += 1;
+    }
+    count
 }
 
 // The text up to the first separator, and what stands behind it.
@@ -60,6 +65,17 @@ fn cut(separator: u8, text: &[u8]) -> (&[u8], Option<&[u8]>)
     (field, Some(rest))
 }
 
+// The same of a text of so many fields: the last one is all of it.
+fn cut_first(separator: u8, text: &[u8], count: usize) -> (&[u8], Option<&[u8]>)
+    requires { count ≡ length (split separator text.now) }
+    ensures { split separator text.now ≡ result.0.now ∷ split_rest separator (option_map (λ rest. rest.now) result.1) }
+{
+    if count == 1 {
+        return (text, None);
+    }
+    cut(separator, text)
+}
+
 impl<'a> Fields<'a> {
     /// The fields of a whole line or part.
     pub fn new(separator: u8, text: &'a [u8]) -> Fields<'a>
@@ -68,6 +84,7 @@ impl<'a> Fields<'a> {
         Fields {
             separator,
             rest: Some(text),
+            left: count_fields(separator, text),
         }
     }
 
@@ -77,8 +94,9 @@ impl<'a> Fields<'a> {
     {
         match self.rest {
             Some(text) => {
-                let (field, rest) = cut(self.separator, text);
+                let (field, rest) = cut_first(self.separator, text, self.left);
                 self.rest = rest;
+                self.left -= 1;
                 Some(field)
             }
             None => None,
@@ -89,10 +107,7 @@ impl<'a> Fields<'a> {
     pub fn count(&self) -> usize
         ensures { result ≡ length self.now }
     {
-        match self.rest {
-            Some(text) => count_fields(self.separator, text),
-            None => 0,
-        }
+        self.left
     }
 
     /// Takes a value; there is a field.

@@ -1,9 +1,10 @@
-//! Times a line of the greatest length, read and printed, beside its digits alone, decoded and
-//! encoded. Without a word behind the program's name it does nothing.
+//! Times a line of the greatest length, of pseudo-random bytes: read to its event, and printed, beside
+//! a plain copy of its text and beside its digits alone by `hex`. Without a word behind the program's
+//! name it does nothing.
 #![tactic(auto)]
 
 use blob_words::{NoMemory, Octets};
-use session_script::{print_event, read_line};
+use session_script::{Event, print_event, read_line};
 use std::alloc::Global;
 use std::env;
 use std::time::Instant;
@@ -13,48 +14,69 @@ const ROUNDS: u32 = 64;
 
 const FRONT: &[u8] = b"data 1 00000000-0000-0000-0000-000000000001 0 ";
 
-// The digits that a line of 1 MiB has behind the front.
-fn digits(alloc: Global) -> Result<Octets, NoMemory> {
-    let mut text = Octets::new(alloc);
-    for _ in 0..65_532 {
-        text.extend_from_slice(b"0123456789abcdef")?;
+// The bytes of a line of 1 MiB: their digits are all of it but the front.
+const BYTES: u32 = (1 << 19) - 64;
+
+// Bytes by xorshift, the middle one of each number.
+fn noise(alloc: Global) -> Result<Octets, NoMemory> {
+    let mut bytes = Octets::new(alloc);
+    let mut state: u32 = 2_463_534_242;
+    for _ in 0..BYTES {
+        state ^= state << 13;
+        state ^= state >> 17;
+        state ^= state << 5;
+        bytes.push(state.to_le_bytes()[1])?;
     }
-    Ok(text)
+    Ok(bytes)
 }
 
-fn read_and_print(alloc: Global, line: &[u8]) -> anyhow::Result<usize> {
-    let event = read_line(alloc, line)?;
-    let mut out = Octets::new(alloc);
-    print_event(alloc, &event, &mut out)?;
-    Ok(out.len())
+fn report(rt: &HostRuntime, what: &str, start: Instant, bytes: usize) -> anyhow::Result<()> {
+    let took = start.elapsed(rt)?.as_micros().max(1);
+    let speed = bytes as u128 / took;
+    println!(rt; "{what}: {took} us, {speed} MB/s of text")?;
+    Ok(())
 }
 
-fn decode_and_encode(alloc: Global, text: &[u8]) -> anyhow::Result<usize> {
-    let bytes = hex::decode(alloc, text)?;
-    let encoded = hex::encode(alloc, bytes.as_slice())?;
-    Ok(encoded.len())
-}
-
-fn time_lines(rt: &HostRuntime, line: &[u8]) -> anyhow::Result<()> {
+fn time_reading(rt: &HostRuntime, line: &[u8]) -> anyhow::Result<()> {
     let start = Instant::now(rt)?;
     let mut sum: usize = 0;
     for _ in 0..ROUNDS {
-        sum = sum.wrapping_add(read_and_print(rt.alloc(), line)?);
+        let _event = read_line(rt.alloc(), line)?;
+        sum = sum.wrapping_add(line.len());
     }
-    let took = start.elapsed(rt)?.as_micros();
-    println!(rt; "{ROUNDS} lines read and printed: {took} us, {sum} bytes")?;
-    Ok(())
+    report(rt, "read", start, sum)
+}
+
+fn time_printing(rt: &HostRuntime, event: &Event) -> anyhow::Result<()> {
+    let start = Instant::now(rt)?;
+    let mut sum: usize = 0;
+    for _ in 0..ROUNDS {
+        let mut out = Octets::new(rt.alloc());
+        print_event(rt.alloc(), event, &mut out)?;
+        sum = sum.wrapping_add(out.len());
+    }
+    report(rt, "printed", start, sum)
+}
+
+fn time_copying(rt: &HostRuntime, line: &[u8]) -> anyhow::Result<()> {
+    let start = Instant::now(rt)?;
+    let mut sum: usize = 0;
+    for _ in 0..ROUNDS {
+        let copy = Octets::from_slice(rt.alloc(), line)?;
+        sum = sum.wrapping_add(copy.len());
+    }
+    report(rt, "copied", start, sum)
 }
 
 fn time_digits(rt: &HostRuntime, text: &[u8]) -> anyhow::Result<()> {
     let start = Instant::now(rt)?;
     let mut sum: usize = 0;
     for _ in 0..ROUNDS {
-        sum = sum.wrapping_add(decode_and_encode(rt.alloc(), text)?);
+        let bytes = hex::decode(rt.alloc(), text)?;
+        let encoded = hex::encode(rt.alloc(), bytes.as_slice())?;
+        sum = sum.wrapping_add(encoded.len());
     }
-    let took = start.elapsed(rt)?.as_micros();
-    println!(rt; "their digits decoded and encoded by hex alone: {took} us, {sum} bytes")?;
-    Ok(())
+    report(rt, "decoded and encoded by hex alone", start, sum)
 }
 
 fn main(rt: HostRuntime) -> anyhow::Result<()> {
@@ -62,12 +84,16 @@ fn main(rt: HostRuntime) -> anyhow::Result<()> {
     if words.len() < 2 {
         return Ok(());
     }
-    let text = digits(rt.alloc())?;
+    let bytes = noise(rt.alloc())?;
+    let text = hex::encode(rt.alloc(), bytes.as_slice())?;
     let mut line = Octets::from_slice(rt.alloc(), FRONT)?;
-    line.extend_from_slice(text.as_slice())?;
+    line.extend_from_slice(text.as_bytes())?;
+    let event = read_line(rt.alloc(), line.as_slice())?;
     for _ in 0..3 {
-        time_lines(&rt, line.as_slice())?;
-        time_digits(&rt, text.as_slice())?;
+        time_reading(&rt, line.as_slice())?;
+        time_printing(&rt, &event)?;
+        time_copying(&rt, line.as_slice())?;
+        time_digits(&rt, text.as_bytes())?;
     }
     Ok(())
 }

@@ -1,20 +1,20 @@
 //! Bytes, as pairs of hexadecimal digits in lower case; `-` stands for none.
 
-ghost use Rattle.std.specs.Prelude.{◌≡◌, ◌&&◌, ◌||◌, ◌*◌, ◌≤◌, ◌<◌, ℕ, length, refl};
-ghost use Rattle.std.specs.List.{list_all};
+ghost use Rattle.std.specs.Prelude.{◌≡◌, ◌≤◌, ◌<◌, ℕ, length, refl, vec_len, IfOk};
 ghost use Rattle.hex.specs.Hex.{IsBytes, encode_lower};
 ghost use Rattle.session_script.specs.Fields.{hex_text};
 ghost use Rattle.session_script.specs.Kind.{bytes, content_type, some_bytes, IsFaultOf};
 ghost use Rattle.session_script.specs.Line.{IsContentType};
 ghost use Rattle.session_script.specs.Output.{output, IsPut};
-ghost use Rattle.session_script.specs.Reading.{is_lower_digit, IsReading};
+ghost use Rattle.session_script.specs.Reading.{IsReading};
 
 use crate::buffer::Buffer;
 use crate::field::{Field, Spell};
 use crate::line_fault::LineFault;
 use blob_source::Sink;
 use blob_words::{Failed, Octets};
-use std::alloc::Global;
+use hex_lanes::decode_into;
+use std::alloc::{AllocError, Global};
 
 /// The most bytes that are turned into digits at once.
 const CHUNK: usize = 1024;
@@ -30,16 +30,11 @@ pub struct ContentType(pub Octets);
 #[derive(Debug, Drop)]
 pub struct SomeOctets(pub Octets);
 
-fn is_lower_digit(byte: u8) -> bool
-    ensures { result ≡ is_lower_digit byte }
+// As many zeros, to be written over.
+fn zeros(alloc: Global, count: usize) -> Result<Vec<u8>, AllocError>
+    ensures { IfOk result (λ zeros. vec_len zeros ≡ count) }
 {
-    matches!(byte, b'0'..=b'9' | b'a'..=b'f')
-}
-
-fn are_lower_digits(text: &[u8]) -> bool
-    ensures { result ≡ list_all is_lower_digit text.now }
-{
-    text.iter().all(|byte| is_lower_digit(*byte))
+    vec![in alloc; 0u8; count]
 }
 
 fn read_hex(alloc: Global, text: &[u8]) -> Result<Octets, LineFault>
@@ -54,12 +49,13 @@ fn read_hex(alloc: Global, text: &[u8]) -> Result<Octets, LineFault>
     if text.len() % 2 == 1 {
         return Err(LineFault::Hex);
     }
-    if !are_lower_digits(text) {
-        return Err(LineFault::Hex);
-    }
-    // An even number of digits decodes, so only memory can fail.
-    match hex::decode(alloc, text) {
-        Ok(bytes) => Ok(Octets::from_vec(bytes)),
+    match zeros(alloc, text.len() / 2) {
+        Ok(mut bytes) => {
+            if !decode_into(text, bytes.as_mut_slice()) {
+                return Err(LineFault::Hex);
+            }
+            Ok(Octets::from_vec(bytes))
+        }
         Err(_) => Err(LineFault::Memory),
     }
 }
@@ -79,23 +75,13 @@ fn put_digits<K: Sink>(buffer: &mut Buffer, out: &mut K, bytes: &[u8]) -> Result
     let mut rest = bytes;
     while !rest.is_empty() {
         let (chunk, after) = rest.split_at(rest.len().min(CHUNK));
-        match put_chunk(buffer, out, chunk) {
+        match buffer.put_digits(out, chunk) {
             Ok(()) => {}
             Err(Failed) => return Err(Failed),
         }
         rest = after;
     }
     Ok(())
-}
-
-fn put_chunk<K: Sink>(buffer: &mut Buffer, out: &mut K, chunk: &[u8]) -> Result<(), Failed>
-    requires { length chunk.now ≤ 1024 }
-    ensures { IsPut (output (K.held out.old) (K.faults out.old) buffer.old) (output (K.held out.new) (K.faults out.new) buffer.new) (encode_lower chunk.now) result }
-{
-    let mut digits = [0u8; 2048];
-    let text = &mut digits[..2 * chunk.len()];
-    let _ = hex::encode_to_slice(chunk, &mut *text);
-    buffer.put(out, &*text)
 }
 
 impl Spell for Octets {

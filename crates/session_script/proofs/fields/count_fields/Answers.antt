@@ -1,11 +1,16 @@
-use Rattle.std.proofs.Common.{◌+◌, sym, ap, ◌∙◌, arith}
-use Rattle.std.proofs.lemmas.List.Splits.{length-slice_split}
-use Rattle.std.proofs.lemmas.List.Sums.{count_by-le-length}
-use Rattle.session_script.proofs.Splits.{is_at}
+use Rattle.std.proofs.Common.{◌+◌, sym, ap, ◌∙◌, length, arith}
+use Rattle.std.proofs.lemmas.List.{length-drop}
+use Rattle.session_script.proofs.Splits.{one_passed, split_none}
 use Rattle.session_script.proofs.fields.count_fields.Goals as goal
 
-pub overflow_add-result : goal.overflow_add-result
-overflow_add-result c = omega (arith, count_by-le-length (is_at c.args.separator) c.args.text.now, c.count_separators.ensures)
+pub loop-at-preserved : goal.loop-at-preserved
+loop-at-preserved c =
+    let rest = c.loop-at.rest.now in
+    let step = one_passed c.args.separator rest c.in-Some.at (sym c.find_separator.ensures ∙ c.in-Some.is) in
+    let shorter = length-drop (c.in-Some.at + 1) rest in
+    rw c.split_at.ensures.back (omega (arith, c.loop-at.invariant.0, step.0), omega (arith, c.loop-at.invariant.1, step.1, shorter))
 
 pub returns : goal.returns
-returns c = ap (λ n. n + 1) c.count_separators.ensures ∙ sym (length-slice_split (is_at c.args.separator) c.args.text.now)
+returns c =
+    let last = ap length (split_none c.args.separator c.loop-at.rest.now (sym c.find_separator.ensures ∙ c.in_default.is)) in
+    omega (arith, c.loop-at.invariant.0, last)

@@ -1,41 +1,45 @@
-use Rattle.std.proofs.Common.{rules, refl, inr, sym, ◌∙◌, arith, length}
+use Rattle.std.proofs.Common.{rules, ◌≡◌, ℕ, List, length, drop, refl, inr, sym, subst, ◌∙◌, arith}
 use Rattle.std.proofs.lemmas.Bool.{both_ways, eqb-true}
-use Rattle.hex.proofs.HexLemmas.{decode_of-ok}
+use Rattle.std.proofs.lemmas.List.{take_at}
+use Rattle.hex.specs.Hex.{IsBytes}
+use Rattle.session_script.specs.Fields.{hex_text}
 use Rattle.session_script.specs.Kind.{Spells, bytes}
-use Rattle.session_script.proofs.Hex.{decoded_text, not_dash, some_bytes, text_of_decoded}
+use Rattle.session_script.proofs.Hex.{digits_of_text, not_dash, some_bytes, text_of_read}
 use Rattle.session_script.proofs.field.bytes.read_hex.Goals as goal
 
 pub returns-then-is_empty : goal.returns-then-is_empty
 returns-then-is_empty c =
     inr (
       λ (s : Spells bytes c.args.text.now).
-          let read = decoded_text c.args.text.now s.0 s.1 s.2 (not_dash _ _ _ c.eq.ensures c.if-eq.false (search rules)) in
+          let digits = digits_of_text c.args.text.now s.0 s.1 s.2 (not_dash _ _ _ c.eq.ensures c.if-eq.false (search rules)) in
           let none = eqb-true (length c.args.text.now) 0 (sym c.is_empty.ensures ∙ c.if-is_empty.true) in
-          omega (arith, read.1, none),
+          omega (arith, digits.1, none),
       refl,
     )
-
-pub returns-then-not-are_lower_digits : goal.returns-then-not-are_lower_digits
-returns-then-not-are_lower_digits c =
-    inr (
-      λ (s : Spells bytes c.args.text.now).
-          let read = decoded_text c.args.text.now s.0 s.1 s.2 (not_dash _ _ _ c.eq.ensures c.if-eq.false (search rules)) in
-          both_ways _ c.if-not-are_lower_digits.true (c.are_lower_digits.ensures ∙ read.0),
-      refl,
-    )
-
-pub returns-in-Ok : goal.returns-in-Ok
-returns-in-Ok c =
-    let lower = sym c.are_lower_digits.ensures ∙ c.if-not-are_lower_digits.false in
-    let some = some_bytes c.args.text.now _ c.is_empty.ensures c.if-is_empty.false in
-    rw c.from_vec.ensures (text_of_decoded c.args.text.now c.in-Ok.bytes.items lower some c.in-Ok.ensures.ok)
 
 pub returns-then-text-eq1 : goal.returns-then-text-eq1
 returns-then-text-eq1 c =
     inr (
       λ (s : Spells bytes c.args.text.now).
-          let read = decoded_text c.args.text.now s.0 s.1 s.2 (not_dash _ _ _ c.eq.ensures c.if-eq.false (search rules)) in
-          let even = (decode_of-ok c.args.text.now s.0 read.2).0 in
-          omega (arith, even),
+          let digits = digits_of_text c.args.text.now s.0 s.1 s.2 (not_dash _ _ _ c.eq.ensures c.if-eq.false (search rules)) in
+          omega (arith, digits.2),
       refl,
     )
+
+pub returns-then-not-decode_into : goal.returns-then-not-decode_into
+returns-then-not-decode_into c =
+    inr (
+      λ (s : Spells bytes c.args.text.now).
+          let digits = digits_of_text c.args.text.now s.0 s.1 s.2 (not_dash _ _ _ c.eq.ensures c.if-eq.false (search rules)) in
+          both_ways _ c.if-not-decode_into.true (c.decode_into.ensures.digits.1 digits.0),
+      refl,
+    )
+
+pub returns-else-not-decode_into : goal.returns-else-not-decode_into
+returns-else-not-decode_into c =
+    let some = some_bytes c.args.text.now _ c.is_empty.ensures c.if-is_empty.false in
+    let spelled = c.decode_into.ensures.spelled c.if-not-decode_into.false in
+    let decoded = c.decode_into.ensures.decoded c.if-not-decode_into.false in
+    let bytes : List ℕ = c.decode_into.new.out in
+    let whole = take_at bytes (drop (length bytes) c.in-Ok.bytes.items) c.in-Ok.bytes.len (omega arith) in
+    rw c.from_vec.ensures (subst (λ (all : List ℕ). IsBytes all × (c.args.text.now ≡ hex_text all)) (sym whole) (text_of_read c.args.text.now bytes some spelled decoded))
