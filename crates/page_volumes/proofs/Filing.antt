@@ -1,6 +1,6 @@
 -- The pages filed: what stands where, after one more and after one less.
-use Rattle.std.proofs.Common.{◌≡◌, ℕ, ◌+◌, ◌≤◌, ◌==◌, ◌||◌, Bool, true, false, not, cond, List, [], ◌∷◌, ◌++◌, Some, None, Option, ◌≢◌, arith, length, option_and_then, refl, sym, ap, ◌∙◌, subst}
-use Rattle.std.specs.Prelude.{if◌then◌else◌, filter, IfSome, IsSome}
+use Rattle.std.proofs.Common.{◌≡◌, ℕ, zero, suc, ◌+◌, ◌≤◌, ◌==◌, ◌||◌, Bool, true, false, not, cond, List, [], ◌∷◌, ◌++◌, Some, None, Option, ◌≢◌, arith, length, option_and_then, refl, sym, take, ap, ◌∙◌, subst}
+use Rattle.std.specs.Prelude.{if◌then◌else◌, filter, slice_get, IfSome, IsSome}
 use Rattle.std.specs.List.{list_any}
 use Rattle.std.specs.Option.{option_map_or, option_or}
 use Rattle.std.proofs.lemmas.Bool.{eq-eqb, eqb-true}
@@ -84,3 +84,21 @@ stands_elsewhere page k (file ∷ files) so other = (elim (page == file.page.0) 
       | true ↦ λ is. absurd (other (ap Some (sym (eqb-true k home is))))
       | false ↦ λ is. refl
     ]) refl
+
+-- the first file of a page that comes
+pub home_found : (page : ℕ) (files : List Filed) (i : ℕ) (file : Filed) → slice_get files i ≡ Some file → home_of page (take i files) ≡ None → (page == file.page.0) ≡ true → home_of page files ≡ Some file.home
+home_found page [] i file there none is = cc
+home_found page (first ∷ files) zero file there none is = let same : first ≡ file = cc in rw (same, is) refl
+home_found page (first ∷ files) (suc i) file there none is = (elim (page == first.page.0) as (λ r. (if r then Some first.home else home_of page (take i files)) ≡ None → (if r then Some first.home else home_of page files) ≡ Some file.home) [
+  | true ↦ λ none. absurd (cc none)
+  | false ↦ λ none. home_found page files i file there none is
+]) none
+
+-- and one that isn't of it
+pub home_not_found : (page : ℕ) (files : List Filed) (i : ℕ) (file : Filed) → slice_get files i ≡ Some file → home_of page (take i files) ≡ None → (page == file.page.0) ≡ false → home_of page (take (suc i) files) ≡ None
+home_not_found page [] i file there none is = cc
+home_not_found page (first ∷ files) zero file there none is = let same : first ≡ file = cc in rw (same, is) refl
+home_not_found page (first ∷ files) (suc i) file there none is = (elim (page == first.page.0) as (λ r. (if r then Some first.home else home_of page (take i files)) ≡ None → (if r then Some first.home else home_of page (take (suc i) files)) ≡ None) [
+  | true ↦ λ none. absurd (cc none)
+  | false ↦ λ none. home_not_found page files i file there none is
+]) none

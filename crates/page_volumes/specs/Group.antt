@@ -36,7 +36,7 @@ pub record Group : Type 0 where
 -- the place of the least volume that isn't retired
 abbrev pub writer_of : List Slot → ℕ
 writer_of [] = 0
-writer_of (slot ∷ slots) = if slot.is_retired then writer_of slots + 1 else 0
+writer_of (slot ∷ slots) = if slot.is_retired then suc (writer_of slots) else zero
 
 -- where the file of a page is; None inside for a torn file that was removed
 abbrev pub home_of : ℕ → List Filed → Option (Option ℕ)

@@ -20,17 +20,21 @@ abbrev pub are_told : Option OpenWrite → Option Log → Option Told → Bool
 are_told write None None = true
 are_told write None (Some told) = false
 are_told write (Some log) None = false
-are_told write (Some log) (Some told) = list_all (λ (file : PageFile). list_any (writes file.page) log.changes) told.files && (is_none write || bytes_eq told.came log.came)
+are_told write (Some log) (Some told) = list_all (λ (file : PageFile). list_any (writes file.page) log.changes) told.files && (is_none write || bytes_eq log.came told.came)
 
 -- whether a volume, where one is held, stands as noted
 abbrev pub is_as_noted : Option Log → Option OpenWrite → Option Seen → Bool
 is_as_noted log write None = true
 is_as_noted log write (Some seen) = is_write write seen.write && are_told write log seen.told
 
--- whether each does; the open write is on the least that isn't retired
+-- whether each slot passes a test, given the open write, which is on the least that isn't retired
+abbrev pub each_passes : (Option OpenWrite → Slot → Bool) → Option OpenWrite → List Slot → Bool
+each_passes test write [] = true
+each_passes test write (slot ∷ slots) = test (if slot.is_retired then None else write) slot && each_passes test (if slot.is_retired then write else None) slots
+
+-- whether each volume stands as noted
 abbrev pub are_as_noted : Option Log → Option OpenWrite → List Slot → Bool
-are_as_noted log write [] = true
-are_as_noted log write (slot ∷ slots) = is_as_noted log (if slot.is_retired then None else write) slot.object && are_as_noted log (if slot.is_retired then write else None) slots
+are_as_noted log write slots = each_passes (λ one slot. is_as_noted log one slot.object) write slots
 
 -- whether a file has the bytes that were put, or none where the write failed
 abbrev pub is_put : Option (List ℕ) → Option (Option (List ℕ)) → Bool
@@ -44,9 +48,9 @@ is_put (Some put) (Some (Some bytes)) = bytes_eq put bytes
 abbrev pub has_put : ℕ → List Change → Seen → Bool
 has_put page changes seen = option_map_or (λ file. is_put (last_put page changes) file) (told_of page seen) true
 
--- whether a page is where it is noted to be
+-- whether a page, which was written, is where it is noted to be
 abbrev pub is_there : List Change → List Slot → Filed → Bool
-is_there changes slots file = option_map_or (λ home. option_map_or (has_put file.page.0 changes) (object_at slots home) false) file.home true
+is_there changes slots file = option_map_or (λ home. list_any (writes file.page.0) changes && option_map_or (has_put file.page.0 changes) (object_at slots home) false) file.home true
 
 -- whether each page is
 abbrev pub are_there : Group → Bool

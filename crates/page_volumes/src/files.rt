@@ -110,7 +110,7 @@ impl Files {
         false
     }
 
-    #[tactic(auto, using(crate::proofs::Filing::stands_elsewhere, crate::proofs::Filing::apart_more))]
+    #[tactic(auto, using(crate::proofs::Noted::passes_unseen, crate::proofs::Told::noted_put, crate::proofs::Filing::apart_more, crate::proofs::Writers::writer_there))]
     pub fn len(&self) -> usize
         ensures { result ≡ length self.now.filed }
     {
