@@ -1,0 +1,5 @@
+pub mod Written
+pub mod Writers
+pub mod Filing
+pub mod Noted
+pub mod Told
