@@ -1,0 +1,62 @@
+-- What is kept of a history, and the notions of it that are looked up in what is kept. Own.
+use Rattle.std.specs.Prelude.{ℕ, ◌==◌, ◌||◌, ◌&&◌, Bool, List, Option, find, reverse, map, filter, bytes_eq, option_and_then}
+use Rattle.std.specs.Map.{lookup}
+use Rattle.std.specs.Ordering.{nat_cmp}
+use Rattle.std.specs.BTreeMap.{is_at}
+use Rattle.std.specs.List.{list_any}
+use Rattle.std.specs.Option.{option_map_or}
+use Rattle.blob_words.specs.declared.status.Status.{Status}
+use Rattle.blob_model.specs.Recorded.{FileState}
+use Rattle.blob_model.specs.Transport.{Arrival}
+
+-- the renderers that died, and whether all of them did
+pub record Deaths : Type 0 where
+  pub numbers : List ℕ
+  pub all : Bool
+
+-- whether the renderer is dead
+abbrev pub is_dead_in : Deaths → ℕ → Bool
+is_dead_in dead number = dead.all || list_any (λ (one : ℕ). one == number) dead.numbers
+
+-- how the blob of this name ended
+abbrev pub ended_in : List (ℕ × Status) → ℕ → Option Status
+ended_in endings name = lookup (is_at (nat_cmp name)) endings
+
+-- whether the blob of this name was granted
+abbrev pub was_granted_in : List ℕ → ℕ → Bool
+was_granted_in granted name = list_any (λ (one : ℕ). one == name) granted
+
+-- how often a renderer holds a blob, as it was last set
+pub record Hold : Type 0 where
+  pub holder : ℕ
+  pub blob : ℕ
+  pub count : ℕ
+
+abbrev pub is_hold : ℕ → ℕ → Hold → Bool
+is_hold holder name hold = hold.holder == holder && hold.blob == name
+
+-- how many handles on the blob the renderer has: what was set last
+abbrev pub count_in : List Hold → ℕ → ℕ → ℕ
+count_in holds holder name = option_map_or (λ (hold : Hold). hold.count) (find (is_hold holder name) (reverse holds)) 0
+
+-- what a line said of a file: its state, or that it is gone
+pub record Note : Type 0 where
+  pub name : List ℕ
+  pub state : Option FileState
+
+-- the last note of the file
+abbrev pub is_of : List ℕ → Note → Bool
+is_of name note = bytes_eq note.name name
+
+-- what is recorded now of the file
+abbrev pub recorded_in : List Note → List ℕ → Option FileState
+recorded_in notes name = option_and_then (λ (note : Note). note.state) (find (is_of name) (reverse notes))
+
+-- a segment that came, with its blob
+pub record Brought : Type 0 where
+  pub blob : ℕ
+  pub arrival : Arrival
+
+-- the segments of the blob that came, in the order in which they came
+abbrev pub arrivals_in : List Brought → ℕ → List Arrival
+arrivals_in all name = map (λ (one : Brought). one.arrival) (filter (λ (one : Brought). one.blob == name) all)
