@@ -1,30 +1,25 @@
--- What is charged to the disk is what the tally says: page files, what is reserved, and what the job in flight still has.
+-- A page file holds a piece exactly where a piece held is in it, and so for the pieces of the job in flight.
 use Rattle.std.proofs.Common.{◌≡◌, ℕ, zero, suc, ◌+◌, ◌<◌, ◌==◌, Bool, true, false, ◌&&◌, ◌||◌, List, [], ◌∷◌, map, length, refl, ap, subst, sym, ◌∙◌, arith, Option, Some, None, inl, inr, ⊎_elim}
 use Rattle.std.specs.Prelude.{cond, find, filter, nat_lt, slice_get, sum_by, IfSome, IsSomeAnd}
 use Rattle.std.specs.Option.{option_map, option_map_or}
 use Rattle.std.specs.List.{AllByRecursion, list_any}
 use Rattle.std.proofs.lemmas.Bool.{and_parts, eq-eqb, eqb-true, lt-ltb}
-use Rattle.std.proofs.lemmas.List.Sums.{sum_by-cons}
 use Rattle.item_shares.specs.declared.item.Item.{Item}
 use Rattle.item_shares.specs.declared.item.Item.TheVariants.{Memory, Paged, Reserved, File, Range}
 use Rattle.item_shares.specs.declared.shares.Share.{Share}
 use Rattle.item_shares.specs.Shares.{item_at, share_at}
-use Rattle.item_shares.specs.Weights.{held_weight, weights}
 use Rattle.page_files.specs.declared.held.Held.{Held}
 use Rattle.page_files.specs.declared.page.Page.{Page as FilePage}
 use Rattle.page_files.specs.declared.page.Page.TheVariants.{Torn, Whole, Asked}
 use Rattle.page_files.specs.Pages.{page_at, pieces_at, pieces_of}
 use Rattle.blob_model.specs.Pages.{Page, Place, in_memory, in_page, is_page, is_reserved, reserved}
 use Rattle.blob_model.specs.Pieces.{Piece, length_in}
-use Rattle.blob_model.specs.Tally.{bytes_of}
 use Rattle.blob_model.proofs.Lists.{any_up, false_true, or_cases, or_first, or_second}
 use Rattle.blob_model.proofs.builds.PieceNumbers.{AreNumbered, FoundIn, all_by_number, found_number}
 use Rattle.store_laws.specs.Cells.{piece_in}
 use Rattle.store_laws.specs.DiskLaws.{IsListed, file_of}
 use Rattle.store_laws.specs.Items.{AreOnePerPiece, Facts, IsPlaced, ItemsStand, held, holds_piece, is_number, piece_at, piece_by, piece_of_item, piece_of_share}
 use Rattle.store_laws.specs.PageFiles.{Sheet, gone, holds_paged, is_paged_in, placed_from, sheet, sheet_of, sheets_from, whole}
-use Rattle.store_laws.specs.Weights.{reserved_bytes, reserved_weight}
-use Rattle.store_laws.proofs.HeldWeights.{IsWeighed, weights_held}
 use Rattle.store_laws.proofs.PageCharges.{AgreeAt, AgreeFrom, agree_from, sheet_held, sheet_is}
 
 -- ---- slots
@@ -35,11 +30,6 @@ slot_of test [] e = absurd (false_true e)
 slot_of test (share ∷ shares) e =
     ⊎_elim (λ (here : test share ≡ true). (0, here)) (λ (more : list_any test shares ≡ true). let rest = slot_of test shares more in (suc rest.0, rest.1))
     (or_cases (test share) (list_any test shares) e)
-
--- what holds of each slot holds of all that they hold
-all_slots : (P : Option Share → Type 0) (shares : List (Option Share)) → ((k : ℕ) → P (share_at shares k)) → AllByRecursion P shares
-all_slots P [] each = tt
-all_slots P (share ∷ shares) each = (each 0, all_slots P shares (λ k. each (suc k)))
 
 -- a slot that holds the piece
 slot_with : (shares : List (Option Share)) (number : ℕ) → holds_piece shares number ≡ true → (k : ℕ) × (piece_at shares k ≡ Some number)
@@ -210,37 +200,6 @@ module _ (all : List Piece) (facts : Facts) where
   listed_piece files n piece (Some (File name stamp off len)) placed e found at listed = absurd (cc e)
   listed_piece files n piece (Some (Range slot off len)) placed e found at listed = absurd (cc e)
 
-  -- what a slot reserves is what its piece has reserved
-  reserved_share : (share : Option Share) → IfSome (option_map (λ (one : Share). one.item) share) (IsPlaced all facts)
-      → IsWeighed all (held_weight reserved_weight) (reserved_bytes facts) share (piece_of_share share)
-  reserved_share None placed = refl
-  reserved_share (Some share) placed = by share.item refl placed
-    where
-      none_reserved : (found : Option Piece) (place : Place) → reserved_weight share.item ≡ 0 → is_reserved place ≡ false
-          → IsSomeAnd found (λ (one : Piece). facts.place one ≡ place) → IsSomeAnd found (λ (one : Piece). reserved_weight share.item ≡ reserved_bytes facts one)
-      none_reserved None place nothing not is = is
-      none_reserved (Some one) place nothing not is = nothing ∙ ap (λ (b : Bool). cond b one.len 0) (sym (ap is_reserved is ∙ not))
-
-      placed_at : (found : Option Piece) (P Q : Piece → Type 0) → ((one : Piece) → P one → Q one) → IsSomeAnd found P → IsSomeAnd found Q
-      placed_at None P Q f is = is
-      placed_at (Some one) P Q f is = f one is
-
-      by : (item : Item) → share.item ≡ item → IsPlaced all facts item
-          → IsWeighed all (held_weight reserved_weight) (reserved_bytes facts) (Some share) (piece_of_item item)
-      by (Memory piece bytes) same is =
-          none_reserved (piece_in all piece.0) in_memory (ap reserved_weight same) refl
-          (placed_at (piece_in all piece.0) _ (λ (one : Piece). facts.place one ≡ in_memory) (λ one good. good.1) is)
-      by (Paged piece page off len) same is =
-          none_reserved (piece_in all piece.0) (in_page page.0) (ap reserved_weight same) refl
-          (placed_at (piece_in all piece.0) _ (λ (one : Piece). facts.place one ≡ in_page page.0) (λ one good. good.1) is)
-      by (Reserved piece len) same is =
-          placed_at (piece_in all piece.0)
-          (λ (one : Piece). (facts.granted one ≡ true) × (facts.place one ≡ reserved) × (len ≡ one.len))
-          (λ (one : Piece). reserved_weight share.item ≡ reserved_bytes facts one)
-          (λ one good. ap reserved_weight same ∙ good.2 ∙ ap (λ (b : Bool). cond b one.len 0) (sym (ap is_reserved good.1))) is
-      by (File name stamp off len) same is = ap reserved_weight same
-      by (Range slot off len) same is = ap reserved_weight same
-
 -- ---- the pieces held
 
 -- what is gathered is in memory, and in no job
@@ -252,40 +211,6 @@ module _ (all : List Piece) (facts : Facts) (shares : List (Option Share)) (gath
   (items : ItemsStand all facts shares) (apart : AreApart facts gathers in_job) where
   abbrev pub keeps : Piece → Bool
   keeps piece = holds_piece shares piece.number || gathers piece
-
-  -- what is reserved
-  pub reserved_held : weights reserved_weight shares ≡ bytes_of (filter (λ (piece : Piece). is_reserved (facts.place piece)) (filter keeps all))
-  reserved_held =
-      weights_held all (held_weight reserved_weight) (reserved_bytes facts) shares numbered items.apart
-      (all_slots (λ (share : Option Share). IsWeighed all (held_weight reserved_weight) (reserved_bytes facts) share (piece_of_share share)) shares
-      (λ k. reserved_share all facts (share_at shares k) (items.each k)))
-      ∙ sums all
-    where
-      sums : (xs : List Piece) → sum_by (reserved_bytes facts) (held shares xs) ≡ bytes_of (filter (λ (piece : Piece). is_reserved (facts.place piece)) (filter keeps xs))
-      sums [] = refl
-      sums (x ∷ xs) = go (holds_piece shares x.number) (gathers x) refl (sums xs)
-        where
-          left : List Piece
-          left = held shares xs
-
-          right : List Piece
-          right = filter keeps xs
-
-          test : Piece → Bool
-          test piece = is_reserved (facts.place piece)
-
-          two : (b : Bool) → sum_by (reserved_bytes facts) left ≡ bytes_of (filter test right)
-              → cond b x.len 0 + sum_by (reserved_bytes facts) left ≡ bytes_of (cond b (x ∷ filter test right) (filter test right))
-          two true rest = omega (arith, rest, sum_by-cons (λ (piece : Piece). piece.len) x (filter test right))
-          two false rest = omega (arith, rest)
-
-          go : (h g : Bool) → gathers x ≡ g → sum_by (reserved_bytes facts) left ≡ bytes_of (filter test right)
-              → sum_by (reserved_bytes facts) (cond h (x ∷ left) left) ≡ bytes_of (filter test (cond (h || g) (x ∷ right) right))
-          go true g is rest = sum_by-cons (reserved_bytes facts) x left ∙ two (test x) rest
-          go false true is rest =
-              let not : test x ≡ false = ap is_reserved (apart.memory x is) in
-              rest ∙ ap (λ (b : Bool). bytes_of (cond b (x ∷ filter test right) (filter test right))) (sym not)
-          go false false is rest = rest
 
   -- a piece that an item has is among those held
   held_there : (number : ℕ) → holds_piece shares number ≡ true → (one : Piece) → FoundIn all number one → (test : Piece → Bool) → test one ≡ true

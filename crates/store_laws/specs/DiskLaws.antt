@@ -5,6 +5,7 @@ use Rattle.item_shares.specs.declared.item.Item.{Item}
 use Rattle.item_shares.specs.declared.item.Item.TheVariants.{Memory, Paged, Reserved, File, Range}
 use Rattle.item_shares.specs.declared.shares.Share.{Share}
 use Rattle.item_shares.specs.Shares.{item_at}
+use Rattle.item_shares.specs.Weights.{weights}
 use Rattle.page_files.specs.declared.held.Held.{Held}
 use Rattle.page_files.specs.declared.page.Page.{Page as FilePage}
 use Rattle.page_files.specs.Files.{Files, charge, left_of}
@@ -18,10 +19,11 @@ use Rattle.blob_model.specs.Legal.{IsLegalFrom}
 use Rattle.blob_model.specs.Pages.{Page, in_memory, next_page, pages, place}
 use Rattle.blob_model.specs.Pieces.{Piece, length_in, pieces}
 use Rattle.blob_model.specs.Reached.{reached}
-use Rattle.blob_model.specs.Tally.{disk, files as page_files}
+use Rattle.blob_model.specs.Tally.{bytes_of, disk, files as page_files, reserved_of}
 use Rattle.store_laws.specs.Items.{ItemsStand}
 use Rattle.store_laws.specs.PageFiles.{PagesStand, writes}
 use Rattle.store_laws.specs.Rows.{Row, is_gathered}
+use Rattle.store_laws.specs.Weights.{reserved_weight}
 use Rattle.store_laws.specs.Uses.{facts_of, held_pieces, page_facts_of}
 
 -- the page files among what page numbers were used for, the first of which is the number given
@@ -54,11 +56,12 @@ pub record AreListed (page : ℕ) (h : History) (shares : List (Option Share)) (
       → (place page h piece ≡ in_memory) × (is_in_job h piece.number ≡ false)
   pub lengths : AllByRecursion (λ (held : Held). held.len ≡ length_in (pieces page h) held.piece.0) (left_of files.job)
 
--- where what is held is what is reached, page files charge what the tally says, and as many are held
+-- where what is held is what is reached, and what is reserved too, page files charge what the tally says, and as many are held
 abbrev pub DiskIsCharged : Type 0
 DiskIsCharged =
     (s : Session) (h : History) (shares : List (Option Share)) (rows : List (Option Row)) (files : Files) → AreAtNumbers h
     → ItemsStand (pieces s.limits.page h) (facts_of s h) shares
     → PagesStand (pieces s.limits.page h) (page_facts_of h) s.limits.disk shares files → AreListed s.limits.page h shares rows files
     → held_pieces s.limits.page h shares rows ≡ reached s.limits.page h
+    → weights reserved_weight shares ≡ bytes_of (reserved_of h (builds s.limits.page h) (reached s.limits.page h))
     → (charge files ≡ disk s.limits.page h) × (held_count files.pages ≡ length (page_files s.limits.page h))
