@@ -1,0 +1,4 @@
+pub mod Sets
+pub mod Windows
+pub mod Living
+pub mod Listing
