@@ -82,7 +82,7 @@ emptied_pairs (build ∷ list) (Some entry ∷ entries) empty = (empty.0, emptie
 
 -- ---- small things
 
-any_each : {X : Type 0} (p q : X → Bool) (xs : List X) → AllByRecursion (λ (x : X). p x ≡ q x) xs → list_any p xs ≡ list_any q xs
+pub any_each : {X : Type 0} (p q : X → Bool) (xs : List X) → AllByRecursion (λ (x : X). p x ≡ q x) xs → list_any p xs ≡ list_any q xs
 any_each p q [] each = refl
 any_each p q (x ∷ xs) each = ap (λ (b : Bool). b || list_any p xs) each.0 ∙ ap (λ (b : Bool). q x || b) (any_each p q xs each.1)
 
@@ -90,7 +90,7 @@ filter_each : (p q : Piece → Bool) (xs : List Piece) → AllByRecursion (λ (x
 filter_each p q [] each = refl
 filter_each p q (x ∷ xs) each = ap (λ (b : Bool). cond b (x ∷ filter p xs) (filter p xs)) each.0 ∙ ap (λ (zs : List Piece). cond (q x) (x ∷ zs) zs) (filter_each p q xs each.1)
 
-map_firsts : (f : Build → Bool) (pairs : List (Build × Entry)) → list_any f (map (λ (pair : Build × Entry). pair.0) pairs) ≡ list_any (λ (pair : Build × Entry). f pair.0) pairs
+pub map_firsts : (f : Build → Bool) (pairs : List (Build × Entry)) → list_any f (map (λ (pair : Build × Entry). pair.0) pairs) ≡ list_any (λ (pair : Build × Entry). f pair.0) pairs
 map_firsts f [] = refl
 map_firsts f (pair ∷ pairs) = ap (λ (b : Bool). f pair.0 || b) (map_firsts f pairs)
 
@@ -191,7 +191,7 @@ module _ (s : Session) (h : History) (stands : ℕ → Bool) (book : Book) (shar
       closed_pairs s h stands exact whole all shares own rest.ends [] whole book.entries (λ (name : ℕ). false) rest.ordered rest.planned rest.sources contents.outlines_stand contents.entries.each
       (λ name there. absurd (false_true there))
 
-  status_of : (pair : Build × Entry) → IsTold s h stands pair → pair.1.status ≡ status_now s h pair.0
+  pub status_of : (pair : Build × Entry) → IsTold s h stands pair → pair.1.status ≡ status_now s h pair.0
   status_of pair told = ap (λ (o : Outline). o.status) told.outline_is
 
   -- the live blobs are those that have an entry

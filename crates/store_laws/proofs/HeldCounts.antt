@@ -17,7 +17,7 @@ use Rattle.blob_model.proofs.Lists.{or_second}
 use Rattle.store_laws.specs.Items.{piece_by, piece_at, piece_of_share, is_number, holds_piece}
 use Rattle.store_laws.proofs.Viewed.{iff_true}
 
-any-counted : {X : Type 0} (test : X → Bool) (xs : List X) → 0 < count_by test xs → list_any test xs ≡ true
+pub any-counted : {X : Type 0} (test : X → Bool) (xs : List X) → 0 < count_by test xs → list_any test xs ≡ true
 any-counted test [] some = absurd (omega arith)
 any-counted {X = X} test (x ∷ xs) some = go (test x) refl (sum_by-cons (λ (y : X). cond (test y) 1 0) x xs) (any-counted test xs)
   where

@@ -15,3 +15,5 @@ pub mod Closing
 pub mod Sums
 pub mod Charges
 pub mod Tallies
+pub mod Resting
+pub mod Slots

@@ -1,4 +1,4 @@
-ghost use Rattle.store_laws.specs.ReachLaws.{ChargesAreTold, HeldIsReached};
+ghost use Rattle.store_laws.specs.ReachLaws.{ChargesAreTold, HeldIsReached, SettledRests, SlotsAreReached};
 ghost use Rattle.store_laws.specs.CellLaws.{DenotedLaws};
 ghost use Rattle.store_laws.specs.GroupLaws.{GroupLegal, LateListsKeepLives, OwnLives};
 
@@ -33,4 +33,15 @@ pub fn held_is_reached()
 /// in memory, and the reserved ones those of the reached pieces that are reserved.
 pub fn charges_are_told()
     ensures { ChargesAreTold }
+{}
+
+/// Behind each group of a legal transcript no ending by a broken source is owed, and each source of
+/// an unfinished live blob lives.
+pub fn settled_rests()
+    ensures { SettledRests }
+{}
+
+/// The data handles that items hold are those reached.
+pub fn slots_are_reached()
+    ensures { SlotsAreReached }
 {}
