@@ -122,7 +122,7 @@ reserved_held page n list facts shares apart each =
 sum_numbered : (blob number : ℕ) (spans : List (ℕ × ℕ)) → sum_by (λ (piece : Piece). piece.len) (numbered blob number spans) ≡ sum_by (λ (span : ℕ × ℕ). span.1) spans
 sum_numbered blob number [] = refl
 sum_numbered blob number (span ∷ spans) =
-    let piece : Piece = record { number = number; blob = blob; from = span.0; len = span.1; } in
+    let piece : Piece = record { number = number; blob = blob; from = span.0; len = span.1 } in
     sum_by-cons (λ (each : Piece). each.len) piece (numbered blob (number + 1) spans)
     ∙ ap (λ (n : ℕ). span.1 + n) (sum_numbered blob (number + 1) spans)
     ∙ sym (sum_by-cons (λ (each : ℕ × ℕ). each.1) span spans)

@@ -151,7 +151,7 @@ pub record IsResting (s : Session) (h : History) (stands : ℕ → Bool) (whole 
   pub there : build_in whole pair.0.name ≡ Some pair.0
 
 module _ (s : Session) (h : History) (stands : ℕ → Bool) (book : Book) (shares : List (Option Share)) (rows : List (Option Row)) (quota : Queue) (files : Files) (order : List (ℕ × ℕ))
-  (contents : ContentsStand s h stands book shares rows quota files order) (exact : AreExact s h stands) (rest : IsAtRest s.limits.page h) (counted : IsCounted book shares rows) where
+    (contents : ContentsStand s h stands book shares rows quota files order) (exact : AreExact s h stands) (rest : IsAtRest s.limits.page h) (counted : IsCounted book shares rows) where
   abbrev page : ℕ
   page = s.limits.page
 
@@ -177,7 +177,7 @@ module _ (s : Session) (h : History) (stands : ℕ → Bool) (book : Book) (shar
   resting =
       for_both (λ (pair : Build × Entry). IsEntryFor whole all shares own pair.0 pair.1)
       (λ (pair : Build × Entry). IsTold s h stands pair × ((is_broken pair.1.status ≡ true → held_views pair.1 ≡ []) × (build_in whole pair.0.name ≡ Some pair.0)))
-      (IsResting s h stands whole all shares own) pairs (λ pair fine more. record { fine = fine; told = more.0; emptied = more.1.0; there = more.1.1; })
+      (IsResting s h stands whole all shares own) pairs (λ pair fine more. record { fine = fine; told = more.0; emptied = more.1.0; there = more.1.1 })
       (fine_pairs whole all shares own whole book.entries contents.entries.each)
       (for_both (IsTold s h stands) (λ (pair : Build × Entry). (is_broken pair.1.status ≡ true → held_views pair.1 ≡ []) × (build_in whole pair.0.name ≡ Some pair.0))
       (λ (pair : Build × Entry). IsTold s h stands pair × ((is_broken pair.1.status ≡ true → held_views pair.1 ≡ []) × (build_in whole pair.0.name ≡ Some pair.0))) pairs (λ pair told more. (told, more))
@@ -339,7 +339,7 @@ module _ (s : Session) (h : History) (stands : ℕ → Bool) (book : Book) (shar
     ready : AllByRecursion (IsReady whole all shares own) pairs
     ready =
         for_each (IsResting s h stands whole all shares own) (IsReady whole all shares own) pairs
-        (λ pair one. record { fine = one.fine; found = ap (λ (o : Option Build). option_map_or (λ (build : Build). build.cells) o []) one.there; }) resting
+        (λ pair one. record { fine = one.fine; found = ap (λ (o : Option Build). option_map_or (λ (build : Build). build.cells) o []) one.there }) resting
 
     same_test : (pair : Build × Entry) → IsTold s h stands pair → holds_now h piece pair.0 ≡ reaches (owns piece) pair
     same_test pair told =

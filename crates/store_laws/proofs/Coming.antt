@@ -82,9 +82,9 @@ gathered_later build list held rows name fresh e = go (build.name == name) refl
     go false at = e
 
 module _ (s : Session) (h : History) (stands : ℕ → Bool) (whole : List Build) (all : List Piece) (shares : List (Option Share)) (own : ℕ → List ℕ)
-  (ends : (name : ℕ) → IfSome (ended h name) (λ (status : Status). is_pending status ≡ false)) (piece : Piece)
-  (mine : list_any (λ (each : ℕ). each == piece.number) (own piece.blob) ≡ true)
-  (yours : (name : ℕ) → list_any (λ (each : ℕ). each == piece.number) (own name) ≡ true → name ≡ piece.blob) where
+    (ends : (name : ℕ) → IfSome (ended h name) (λ (status : Status). is_pending status ≡ false)) (piece : Piece)
+    (mine : list_any (λ (each : ℕ). each == piece.number) (own piece.blob) ≡ true)
+    (yours : (name : ℕ) → list_any (λ (each : ℕ). each == piece.number) (own name) ≡ true → name ≡ piece.blob) where
   abbrev passes : ℕ → Bool
   passes slot = is_number piece.number (piece_at shares slot)
 
@@ -199,8 +199,7 @@ module _ (s : Session) (h : History) (stands : ℕ → Bool) (whole : List Build
       entries row rows e f
       (λ off fine also.
       further build list None rows (paired list entries) distinct.0 (all_come list entries rows distinct.1 (rest_of s h stands build list held entries e) beside.1 (rows_rest build list row rows f) also))
-      (λ entry one told coming_is fine also.
-      (
+      (λ entry one told coming_is fine also. (
         comes_first build list entry one rows told coming_is fine also.0,
         further build list (Some one) rows (paired list entries) distinct.0 (all_come list entries rows distinct.1 (rest_of s h stands build list held entries e) beside.1 (rows_rest build list row rows f) also.1),
       )) beside.0 written
@@ -262,8 +261,7 @@ module _ (s : Session) (h : History) (stands : ℕ → Bool) (whole : List Build
           → (is_gathered list rows piece.blob ≡ true → IsHad (paired list entries)) → IsHad ((build, entry) ∷ paired list entries)
       some true at entry one told coming_is fine now rest =
           let named_so : build.name ≡ piece.blob = eqb-true build.name piece.blob at in
-          let gathered = gathering_now s h build (ap gathers (sym coming_is) ∙ same_gathers one.coming ∙ now) in
-          (
+          let gathered = gathering_now s h build (ap gathers (sym coming_is) ∙ same_gathers one.coming ∙ now) in (
             ap (λ (o : Option Build). option_map_or (is_granted h) o false) (ap (build_in whole) (sym named_so) ∙ there.0) ∙ gathered.granted,
             or_first (has_piece shares piece.number (build, entry)) (list_any (has_piece shares piece.number) (paired list entries))
                 (has_coming build entry told fine gathered.status (ap (λ (n : ℕ). list_any (λ (each : ℕ). each == piece.number) (own n)) named_so ∙ mine)),

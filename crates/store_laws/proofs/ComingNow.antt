@@ -51,7 +51,7 @@ sent_by_status s h build apart e = go (ended h build.name) refl apart e
         → cond a statuses.PendingQuota (cond b statuses.PendingReferencedBlobs statuses.PendingTransport) ≡ statuses.PendingTransport → IsSent s h build
     parts true b w l begun f = absurd (cc f)
     parts false true w l begun f = absurd (cc f)
-    parts false false w l begun f = record { begun = begun; roomy = w; lacks = l; }
+    parts false false w l begun f = record { begun = begun; roomy = w; lacks = l }
 
     go : (o : Option Status) → ended h build.name ≡ o → IfSome o (λ (status : Status). is_pending status ≡ false) → unwrap_or o (pending_status s h build) ≡ statuses.PendingTransport
         → IsSent s h build
@@ -169,7 +169,7 @@ module _ (s : Session) (h : History) (build : Build) where
 
       go : (a b : Bool) → is_granted h build ≡ a → has_all s.limits h build ≡ b → gathers (cond a (cond b settled (gathering (gathered_of s h build))) waiting) ≡ true → IsGathering
       go true false g l f =
-          let sent : IsSent s h build = record { begun = begun; roomy = roomy g; lacks = l; } in record { sent = sent; granted = g; status = status_of_sent s h build sent; }
+          let sent : IsSent s h build = record { begun = begun; roomy = roomy g; lacks = l } in record { sent = sent; granted = g; status = status_of_sent s h build sent }
       go true true g l f = absurd (false_true f)
       go false b g l f = absurd (false_true f)
   gathering_by (Some (plans.File n)) at begun e = absurd (go (has_all s.limits h build) e)
@@ -195,7 +195,7 @@ module _ (s : Session) (h : History) (build : Build) where
     where
       go : (b : Bool) → has_all s.limits h build ≡ b → is_writing (cond b settled (writing [] (came_of s h build))) ≡ true → status_now s h build ≡ statuses.PendingTransport
       go true l f = absurd (false_true f)
-      go false l f = status_of_sent s h build (record { begun = begun; roomy = waits_other (Some (plans.File n)) refl at; lacks = l; })
+      go false l f = status_of_sent s h build (record { begun = begun; roomy = waits_other (Some (plans.File n)) refl at; lacks = l })
   writing_by (Some (plans.Shared n)) at begun e = absurd (go (is_granted h build) (has_all s.limits h build) e)
     where
       go : (a b : Bool) → is_writing (cond a (cond b settled (gathering (gathered_of s h build))) waiting) ≡ true → ⊥

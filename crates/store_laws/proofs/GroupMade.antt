@@ -54,10 +54,8 @@ use Rattle.blob_model.proofs.settled.Removals.{removals_late}
 use Rattle.blob_model.proofs.settled.GrantsAndJobs.{grants_late}
 use Rattle.blob_model.proofs.settled.GrantsAndJobs.{page_jobs_still}
 use Rattle.blob_model.proofs.settled.GrantsAndJobs.{compactions_still}
-
 use Rattle.store_laws.specs.Settling.{after_drops, after_endings, after_late_drops, after_removals, after_grants, after_page_jobs, after_all, answers_of}
 use Rattle.store_laws.proofs.LeftFiles.{LeavesNone, leaves-append, drops_leave, endings_leave, grants_leave, page_jobs_leave, compactions_leave, own_leaves}
-
 
 -- lists that are put behind one another
 joined : (o a b c d e f g : List Answer) → ((((((o ++ a) ++ b) ++ c) ++ d) ++ e) ++ f) ++ g ≡ o ++ (a ++ (b ++ (c ++ (d ++ (e ++ (f ++ (g ++ [])))))))
@@ -118,8 +116,7 @@ module _ (s : Session) (h : History) (event : Event) (own l4 : List Answer) wher
       ap (λ (left : List ℕ). settle s left line) left_is ∙ rest in
       let whole : (answers_of s own l4 line) ≡ own ++ (d1 ++ (e2 ++ (d3 ++ (l4 ++ (g5 ++ (p6 ++ (c7 ++ []))))))) = joined own d1 e2 d3 l4 g5 p6 c7 in
       let later : after h event (answers_of s own l4 line) ≡ (after_all s l4 line) =
-      ap (after h event) whole ∙ after_own h event own (d1 ++ (e2 ++ (d3 ++ (l4 ++ (g5 ++ (p6 ++ (c7 ++ []))))))) (own_first s h event own is) ∙ said_seven line d1 e2 d3 l4 g5 p6 c7 in
-      (
+      ap (after h event) whole ∙ after_own h event own (d1 ++ (e2 ++ (d3 ++ (l4 ++ (g5 ++ (p6 ++ (c7 ++ []))))))) (own_first s h event own is) ∙ said_seven line d1 e2 d3 l4 g5 p6 c7 in (
         record {
           open_still = still;
           own = own;
@@ -139,8 +136,7 @@ module _ (s : Session) (h : History) (event : Event) (own l4 : List Answer) wher
   pub settled_all : Kept s h → IsOwn s h event own → l4 ≡ removals s (left_files l4) (after_late_drops s line) → Kept s (after_all s l4 line) × IsSettled s (after_all s l4 line)
   settled_all kept is removed =
       let here : Kept s line = kept_own s h event own own [] kept is (sym (append-nil own)) in
-      let path = seven removed in
-      (
+      let path = seven removed in (
         subst (λ (g : History). Kept s g) path (kept_all s line (settle s (left_files l4) line) here),
         subst (λ (g : History). IsSettled s g) path (settled_once s (left_files l4) line here),
       )

@@ -50,7 +50,7 @@ pub record IsRead (all : List Piece) (shares : List (Option Share)) (test : Cell
   pub source : (name off len : ℕ) → mine (Source name off len) ≡ false
 
 module _ (list : List Build) (all : List Piece) (shares : List (Option Share)) (own : ℕ → List ℕ) (test : Cell → Bool) (on : View → Bool) (mine : Step → Bool)
-  (read : IsRead all shares test on mine) where
+    (read : IsRead all shares test on mine) where
   -- ---- one recipe
 
   abbrev FromSource : List Step → Type 0
@@ -85,8 +85,7 @@ module _ (list : List Build) (all : List Piece) (shares : List (Option Share)) (
   recipe_has (Source name off len ∷ recipe) sound e =
       first (Source name off len) recipe
       (λ now.
-      inr
-      (
+      inr (
         name,
         or_first (name == name) (takes_from name recipe) (eq-eqb name name refl),
         any_drop test off (cells_in list name) (any_take test len (drop off (cells_in list name)) now),

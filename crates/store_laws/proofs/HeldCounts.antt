@@ -39,7 +39,7 @@ slot_of number (share ∷ shares) e =
     is_some_number number None e = absurd (false_true e)
     is_some_number number (Some one) e = ap Some (eqb-true one number e)
 
-at_slot : (number k : ℕ) (shares : List (Option Share)) → is_number number (piece_at shares k) ≡ true → holds_piece shares number ≡ true
+pub at_slot : (number k : ℕ) (shares : List (Option Share)) → is_number number (piece_at shares k) ≡ true → holds_piece shares number ≡ true
 at_slot number k [] e = absurd (false_true e)
 at_slot number zero (share ∷ shares) e = or_first (is_number number (piece_of_share share)) (holds_piece shares number) e
 at_slot number (suc k) (share ∷ shares) e = or_second (is_number number (piece_of_share share)) (holds_piece shares number) (at_slot number k shares e)

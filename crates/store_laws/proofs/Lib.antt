@@ -17,3 +17,4 @@ pub mod Charges
 pub mod Tallies
 pub mod Resting
 pub mod Slots
+pub mod PageCharges

@@ -126,4 +126,3 @@ own_by_lives s h event None own at bounded is name e = accepted_lives s h event 
 pub own_lives : (s : Session) (h : History) (event : Event) (own : List Answer) → Bounded s h → IsOwn s h event own
     → (name : ℕ) → is_live s.limits.page (after h event own) name ≡ true → stood s.limits.page h event own name ≡ true
 own_lives s h event own bounded is name e = own_by_lives s h event (refusal s h event) own refl bounded is name e
-

@@ -31,8 +31,7 @@ AreStaggered (piece ∷ more) = AllByRecursion (IsBefore piece) more × AreStagg
 numbered_above : (blob number from to : ℕ) (spans : List (ℕ × ℕ)) → IsEndToEnd from spans to → AllByRecursion (λ (piece : Piece). from ≤ piece.from) (numbered blob number spans)
 numbered_above blob number from to [] whole = tt
 numbered_above blob number from to (span ∷ spans) whole =
-    let here = whole.0 in
-    (
+    let here = whole.0 in (
       omega (arith, here),
       for_each (λ (piece : Piece). from + span.1 ≤ piece.from) (λ (piece : Piece). from ≤ piece.from) (numbered blob (number + 1) spans) (λ piece low. omega (arith, low))
           (numbered_above blob (number + 1) (from + span.1) to spans whole.2),
@@ -41,8 +40,7 @@ numbered_above blob number from to (span ∷ spans) whole =
 numbered_staggered : (blob number from to : ℕ) (spans : List (ℕ × ℕ)) → IsEndToEnd from spans to → AreStaggered (numbered blob number spans)
 numbered_staggered blob number from to [] whole = tt
 numbered_staggered blob number from to (span ∷ spans) whole =
-    let here = whole.0 in
-    (
+    let here = whole.0 in (
       for_each (λ (piece : Piece). from + span.1 ≤ piece.from) (λ (piece : Piece). blob ≡ piece.blob → span.0 + span.1 ≤ piece.from) (numbered blob (number + 1) spans) (λ piece low same. omega (arith, low, here))
           (numbered_above blob (number + 1) (from + span.1) to spans whole.2),
       numbered_staggered blob (number + 1) (from + span.1) to spans whole.2,
@@ -100,11 +98,10 @@ IsOwner list piece = (cell : Cell) → owns piece cell ≡ true → piece_with l
 
 pub owners : (list : List Piece) → AreStaggered list → AllByRecursion (IsOwner list) list
 owners [] staggered = tt
-owners (piece ∷ list) staggered =
-    (
-      (λ cell e. ap (λ (b : Bool). cond b (Some piece) (piece_with list cell)) e),
-      both_all (IsBefore piece) (IsOwner list) (IsOwner (piece ∷ list)) list later staggered.0 (owners list staggered.1),
-    )
+owners (piece ∷ list) staggered = (
+  (λ cell e. ap (λ (b : Bool). cond b (Some piece) (piece_with list cell)) e),
+  both_all (IsBefore piece) (IsOwner list) (IsOwner (piece ∷ list)) list later staggered.0 (owners list staggered.1),
+)
   where
     both_all : {X : Type 0} (P Q R : X → Type 0) (xs : List X) → ((x : X) → P x → Q x → R x) → AllByRecursion P xs → AllByRecursion Q xs → AllByRecursion R xs
     both_all P Q R [] f p q = tt

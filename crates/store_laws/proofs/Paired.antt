@@ -61,7 +61,7 @@ module _ (s : Session) (h : History) (stands : ℕ → Bool) where
           let f : option_map outline None ≡ Some (outline_of s h build) = e ∙ ap (λ (b : Bool). cond b (Some (outline_of s h build)) None) at in absurd (cc f)
       go (Some entry) true at e =
           let f : Some (outline entry) ≡ Some (outline_of s h build) = e ∙ ap (λ (b : Bool). cond b (Some (outline_of s h build)) None) at in
-          some entry (record { standing = at; outline_is = cc; })
+          some entry (record { standing = at; outline_is = cc })
       go (Some entry) false at e =
           let f : Some (outline entry) ≡ None = e ∙ ap (λ (b : Bool). cond b (Some (outline_of s h build)) None) at in absurd (cc f)
 
@@ -168,7 +168,7 @@ pending_now s h build apart = go (ended h build.name) apart
 -- ---- sources stand before
 
 module _ (s : Session) (h : History) (stands : ℕ → Bool) (exact : (name : ℕ) → stands name ≡ is_live s.limits.page h name) (whole : List Build) (all : List Piece)
-  (shares : List (Option Share)) (own : ℕ → List ℕ) (ends : (name : ℕ) → IfSome (ended h name) (λ (status : Status). is_pending status ≡ false)) where
+    (shares : List (Option Share)) (own : ℕ → List ℕ) (ends : (name : ℕ) → IfSome (ended h name) (λ (status : Status). is_pending status ≡ false)) where
   abbrev Sourced : Build → Type 0
   Sourced build =
       is_live s.limits.page h build.name ≡ true → is_unfinished h build.name ≡ true → (source : ℕ) → has_source build source ≡ true
@@ -214,13 +214,12 @@ module _ (s : Session) (h : History) (stands : ℕ → Bool) (exact : (name : �
 
       some : ((next : ℕ → Bool) → Knows (earlier ++ build ∷ []) next → AreClosed next (paired list entries)) → (entry : Entry) → IsTold s h stands (build, entry) → IsEntryFor whole all shares own build entry → AreClosed known ((build, entry) ∷ paired list entries)
       some later entry told fine =
-          let status_is : entry.status ≡ status_now s h build = ap (λ (o : Outline). o.status) told.outline_is in
-          (
+          let status_is : entry.status ≡ status_now s h build = ap (λ (o : Outline). o.status) told.outline_is in (
             (λ name pending takes.
-            let begun : is_unfinished h build.name ≡ true = sym (pending_now s h build (ends build.name)) ∙ ap is_pending (sym status_is) ∙ pending in
-            let has : has_source build name ≡ true = sym (ap (list_any (λ (source : ℕ). source == name)) (fine.sources pending)) ∙ takes in
-            let source = sourced.0 (sym (exact build.name) ∙ told.standing) begun name has in
-            knows name (ordered.1 name (planned build broke.0 begun) has) source.0 source.1),
+                let begun : is_unfinished h build.name ≡ true = sym (pending_now s h build (ends build.name)) ∙ ap is_pending (sym status_is) ∙ pending in
+                let has : has_source build name ≡ true = sym (ap (list_any (λ (source : ℕ). source == name)) (fine.sources pending)) ∙ takes in
+                let source = sourced.0 (sym (exact build.name) ∙ told.standing) begun name has in
+                knows name (ordered.1 name (planned build broke.0 begun) has) source.0 source.1),
             later (λ (name : ℕ). known name || (is_unbroken entry.status && build.name == name))
                 (λ name there live whole.
                 ⊎_elim (λ (old : named name earlier ≡ true). or_first (known name) (is_unbroken entry.status && build.name == name) (knows name old live whole))

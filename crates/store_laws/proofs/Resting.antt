@@ -93,8 +93,7 @@ rests_when_settled s groups legal =
           (λ (build : Build). is_live s.limits.page (history_from start groups) build.name ≡ true → is_unfinished (history_from start groups) build.name ≡ true → (source : ℕ)
           → has_source build source ≡ true
           → (is_live s.limits.page (history_from start groups) source ≡ true) × (is_broken (history_from start groups) source ≡ false)) (builds s.limits.page (history_from start groups))
-          (λ build lives none live begun source has.
-          (
+          (λ build lives none live begun source has. (
             lives live begun source has,
             fails_at (is_broken (history_from start groups)) (sources build.parts) source (no_broken s (history_from start groups) build none begun) has,
           ))

@@ -254,7 +254,7 @@ filtered_any h test (build ∷ list) = go (is_broken_now h build.name) (filtered
     go false rest = ap (λ (b : Bool). list_any test build.cells || b) rest
 
 module _ (s : Session) (h : History) (stands : ℕ → Bool) (book : Book) (shares : List (Option Share)) (rows : List (Option Row)) (quota : Queue) (files : Files) (order : List (ℕ × ℕ))
-  (contents : ContentsStand s h stands book shares rows quota files order) (exact : AreExact s h stands) (rest : IsAtRest s.limits.page h) (counted : IsCounted book shares rows) (k : ℕ) where
+    (contents : ContentsStand s h stands book shares rows quota files order) (exact : AreExact s h stands) (rest : IsAtRest s.limits.page h) (counted : IsCounted book shares rows) (k : ℕ) where
   abbrev whole : List Build
   whole = builds s.limits.page h
 
@@ -362,7 +362,7 @@ module _ (s : Session) (h : History) (stands : ℕ → Bool) (book : Book) (shar
   ready : AllByRecursion (IsReady whole all shares own) both_pairs
   ready =
       for_each (IsResting s h stands whole all shares own) (IsReady whole all shares own) both_pairs
-      (λ pair one. record { fine = one.fine; found = ap (λ (o : Option Build). option_map_or (λ (build : Build). build.cells) o []) one.there; })
+      (λ pair one. record { fine = one.fine; found = ap (λ (o : Option Build). option_map_or (λ (build : Build). build.cells) o []) one.there })
       (resting s h stands book shares rows quota files order contents exact rest counted)
 
   same_test : (pair : Build × Entry) → IsTold s h stands pair → (not (is_broken_now h pair.0.name) && list_any (is_of_slot k) pair.0.cells) ≡ reaches (is_of_slot k) pair

@@ -28,8 +28,8 @@ use Rattle.store_laws.proofs.Closing.{held_reached}
 use Rattle.store_laws.proofs.Sums.{sum-each, sum-either, sum-none, sum-passing}
 
 module _ (s : Session) (h : History) (stands : ℕ → Bool) (book : Book) (shares : List (Option Share)) (rows : List (Option Row)) (quota : Queue) (files : Files) (order : List (ℕ × ℕ))
-  (contents : ContentsStand s h stands book shares rows quota files order) (exact : AreExact s h stands) (rest : IsAtRest s.limits.page h) (counted : IsCounted book shares rows)
-  (apart : AreGatheredApart s h shares rows) where
+    (contents : ContentsStand s h stands book shares rows quota files order) (exact : AreExact s h stands) (rest : IsAtRest s.limits.page h) (counted : IsCounted book shares rows)
+    (apart : AreGatheredApart s h shares rows) where
   abbrev whole : List Build
   whole = builds s.limits.page h
 

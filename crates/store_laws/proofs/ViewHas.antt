@@ -41,7 +41,7 @@ fixed-none all shares number (Fixed view ∷ recipe) sound =
     ∙ fixed-none all shares number recipe sound.1
 
 module _ (l : Limits) (list : List Build) (distinct : Distinct list) (piece : Piece) (found : FoundIn (pieces_from l.page 0 list) piece.number piece)
-  (shares : List (Option Share)) (own : ℕ → List ℕ) where
+    (shares : List (Option Share)) (own : ℕ → List ℕ) where
   abbrev all : List Piece
   all = pieces_from l.page 0 list
 

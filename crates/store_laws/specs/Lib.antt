@@ -13,3 +13,4 @@ pub mod Having
 pub mod GroupLaws
 pub mod CellLaws
 pub mod ReachLaws
+pub mod PageLaws

@@ -1,3 +1,4 @@
+ghost use Rattle.store_laws.specs.PageLaws.{DiskIsCharged};
 ghost use Rattle.store_laws.specs.ReachLaws.{ChargesAreTold, HeldIsReached, SettledRests, SlotsAreReached};
 ghost use Rattle.store_laws.specs.CellLaws.{DenotedLaws};
 ghost use Rattle.store_laws.specs.GroupLaws.{GroupLegal, LateListsKeepLives, OwnLives};
@@ -44,4 +45,10 @@ pub fn settled_rests()
 /// The data handles that items hold are those reached.
 pub fn slots_are_reached()
     ensures { SlotsAreReached }
+{}
+
+/// The bytes charged for page files are those that the history says, and as many page files hold a
+/// reached piece.
+pub fn disk_is_charged()
+    ensures { DiskIsCharged }
 {}

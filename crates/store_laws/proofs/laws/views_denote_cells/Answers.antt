@@ -6,4 +6,4 @@ use Rattle.store_laws.proofs.Viewed.{views_any}
 use Rattle.store_laws.proofs.laws.views_denote_cells.Goals as goal
 
 pub returns : goal.returns
-returns c = record { joined = denoted-append; cut = denoted-cut; of_view = denoted-view; same = denoted-same; }
+returns c = record { joined = denoted-append; cut = denoted-cut; of_view = denoted-view; same = denoted-same }
