@@ -18,3 +18,4 @@ pub mod Tallies
 pub mod Resting
 pub mod Slots
 pub mod PageCharges
+pub mod Agreeing

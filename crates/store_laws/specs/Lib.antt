@@ -14,3 +14,4 @@ pub mod GroupLaws
 pub mod CellLaws
 pub mod ReachLaws
 pub mod PageLaws
+pub mod AgreeLaws

@@ -1,3 +1,4 @@
+ghost use Rattle.store_laws.specs.AgreeLaws.{EntriesAgree, ReachesFollows};
 ghost use Rattle.store_laws.specs.PageLaws.{DiskIsCharged};
 ghost use Rattle.store_laws.specs.ReachLaws.{ChargesAreTold, HeldIsReached, SettledRests, SlotsAreReached};
 ghost use Rattle.store_laws.specs.CellLaws.{DenotedLaws};
@@ -51,4 +52,16 @@ pub fn slots_are_reached()
 /// reached piece.
 pub fn disk_is_charged()
     ensures { DiskIsCharged }
+{}
+
+/// While whatever lives stands, and whatever is unfinished, entries that are held as their blobs are
+/// agree with the history, as the laws of the registry ask.
+pub fn entries_agree()
+    ensures { EntriesAgree }
+{}
+
+/// When the live blobs stand and no others, what is held is what is reached, and memory, page files
+/// and data handles are as the tally and the history say.
+pub fn reaches_follows()
+    ensures { ReachesFollows }
 {}
