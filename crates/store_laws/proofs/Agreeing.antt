@@ -1,6 +1,6 @@
 -- Entries that stand for their blobs agree with the history as the laws of the registry ask.
-use Rattle.std.proofs.Common.{◌≡◌, ℕ, ◌==◌, Bool, true, false, List, [], ◌∷◌, map, refl, ap, sym, ◌∙◌, Option, Some, None, cond}
-use Rattle.std.specs.Prelude.{is_none, nat_lt, unwrap_or, IfSome}
+use Rattle.std.proofs.Common.{◌≡◌, ℕ, Bool, true, false, List, [], ◌∷◌, refl, ap, sym, ◌∙◌, Option, Some, None, cond}
+use Rattle.std.specs.Prelude.{nat_lt, unwrap_or, IfSome}
 use Rattle.std.specs.Option.{option_map}
 use Rattle.std.specs.List.{AllByRecursion}
 use Rattle.blob_words.specs.declared.status.Status.{Status}
@@ -12,7 +12,7 @@ use Rattle.blob_entries.specs.declared.entry.Entry.{Entry}
 use Rattle.blob_model.specs.Session.{Session}
 use Rattle.blob_model.specs.History.{History}
 use Rattle.blob_model.specs.Builds.{Build, builds}
-use Rattle.blob_model.specs.Live.{is_live, is_rooted}
+use Rattle.blob_model.specs.Live.{is_rooted}
 use Rattle.blob_model.specs.Order.{named}
 use Rattle.blob_model.specs.Own.{pending_status}
 use Rattle.blob_model.specs.Pieces.{Piece, pieces}
@@ -52,7 +52,8 @@ not_so false f = refl
 
 module _ (s : Session) (h : History) (stands : ℕ → Bool) (whole : List Build) (all : List Piece) (shares : List (Option Share)) (own : ℕ → List ℕ)
     (ends : (name : ℕ) → IfSome (ended h name) (λ (status : Status). is_pending status ≡ false)) (covers : Covers s h stands) where
-  each_agrees : (list : List Build) (entries : List (Option Entry)) → AllByRecursion (λ (build : Build). is_unfinished h build.name ≡ true → stands build.name ≡ true) list
+  each_agrees : (list : List Build) (entries : List (Option Entry)) → AllByRecursion (λ (build : Build). is_unfinished h build.name ≡ true
+      → stands build.name ≡ true) list
       → AllByRecursion (λ (build : Build). named build.name (builds s.limits.page h) ≡ true) list → AreOutlined s h stands list entries
       → Beside (EntryStands whole all shares own) list entries → Beside (IsRootedAs s.limits.page h) list entries → Beside (Agrees s.limits.page h) list entries
   each_agrees [] [] begun built e beside rooted = tt
@@ -61,7 +62,8 @@ module _ (s : Session) (h : History) (stands : ℕ → Bool) (whole : List Build
   each_agrees (build ∷ list) (held ∷ entries) begun built e beside rooted =
       let outlined : option_map outline held ≡ outline_at s h stands build = cc in (
         by_first s h stands
-            (λ (one : Option Entry). EntryStands whole all shares own build one → IsRootedAs s.limits.page h build one → Agrees s.limits.page h build one) build held outlined none some
+            (λ (one : Option Entry). EntryStands whole all shares own build one → IsRootedAs s.limits.page h build one
+            → Agrees s.limits.page h build one) build held outlined none some
             beside.0 rooted.0,
         each_agrees list entries begun.1 built.1 (rest_of s h stands build list held entries e) beside.1 rooted.1,
       )
@@ -74,7 +76,8 @@ module _ (s : Session) (h : History) (stands : ℕ → Bool) (whole : List Build
                 (λ root. false_true (sym off ∙ covers.living build.name (rooted_live s.limits.page h build.name built.0 root)));
           }
 
-      some : (entry : Entry) → IsTold s h stands (build, entry) → IsEntryFor whole all shares own build entry → nat_lt 0 entry.roots ≡ is_rooted s.limits.page h build.name
+      some : (entry : Entry) → IsTold s h stands (build, entry) → IsEntryFor whole all shares own build entry
+          → nat_lt 0 entry.roots ≡ is_rooted s.limits.page h build.name
           → IsEntryOf s.limits.page h build entry
       some entry tells fine root =
           record {
@@ -83,12 +86,15 @@ module _ (s : Session) (h : History) (stands : ℕ → Bool) (whole : List Build
             sources = fine.sources;
           }
 
-pub agrees : (s : Session) (h : History) (stands : ℕ → Bool) (book : Book) (shares : List (Option Share)) (rows : List (Option Row)) (quota : Queue) (files : Files) (order : List (ℕ × ℕ))
-    → ContentsStand s h stands book shares rows quota files order → Covers s h stands → ((name : ℕ) → IfSome (ended h name) (λ (status : Status). is_pending status ≡ false))
+pub agrees : (s : Session) (h : History) (stands : ℕ → Bool) (book : Book) (shares : List (Option Share)) (rows : List (Option Row)) (quota : Queue)
+    (files : Files) (order : List (ℕ × ℕ))
+    → ContentsStand s h stands book shares rows quota files order → Covers s h stands → ((name : ℕ)
+    → IfSome (ended h name) (λ (status : Status). is_pending status ≡ false))
     → Beside (IsRootedAs s.limits.page h) (builds s.limits.page h) book.entries → AgreesWith s.limits.page h book
 agrees s h stands book shares rows quota files order contents covers ends rooted =
     record {
       names = contents.names;
-      each = each_agrees s h stands (builds s.limits.page h) (pieces s.limits.page h) shares (own_pieces s.limits.page h) ends covers (builds s.limits.page h) book.entries covers.unfinished
+      each = each_agrees s h stands (builds s.limits.page h) (pieces s.limits.page h) shares (own_pieces s.limits.page h) ends covers
+          (builds s.limits.page h) book.entries covers.unfinished
           (all_numbered (λ (build : Build). build.name) (builds s.limits.page h)) contents.outlines_stand contents.entries.each rooted;
     }

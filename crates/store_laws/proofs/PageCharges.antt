@@ -1,8 +1,9 @@
 -- What is charged for page files is what the reached pieces in them, the reserved ones and those of the job are charged.
-use Rattle.std.proofs.Common.{◌≡◌, ℕ, zero, suc, ◌+◌, ◌==◌, ◌<◌, ◌⊎◌, Bool, true, false, ◌&&◌, ◌||◌, not, List, [], ◌∷◌, ◌++◌, map, length, reverse, get_or, refl, ap, subst, sym, ◌∙◌, arith, Option, Some, None, ⊎_elim, cond}
+use Rattle.std.proofs.Common.{◌≡◌, ℕ, zero, suc, ◌+◌, ◌==◌, ◌⊎◌, Bool, true, false, ◌&&◌, ◌||◌, not, List, []}
+use Rattle.std.proofs.Common.{◌∷◌, map, length, reverse, get_or, refl, ap, subst, sym, ◌∙◌, arith, Option, Some, None, ⊎_elim, cond}
 use Rattle.std.specs.Prelude.{filter, find, nat_lt, sum_by, IfSome, IsSomeAnd}
 use Rattle.std.specs.Option.{option_map, option_map_or}
-use Rattle.std.specs.List.{AllByRecursion, count_by, list_any}
+use Rattle.std.specs.List.{AllByRecursion, list_any}
 use Rattle.std.proofs.lemmas.Bool.{and_parts, eqb-true, eq-eqb, lt-ltb}
 use Rattle.std.proofs.lemmas.List.Sums.{sum_by-cons}
 use Rattle.item_shares.specs.declared.item.Item.{Item}
@@ -24,15 +25,17 @@ use Rattle.blob_model.specs.Session.{Session}
 use Rattle.blob_model.specs.History.{History}
 use Rattle.blob_model.specs.Builds.{Build, builds, build_in}
 use Rattle.blob_model.specs.Jobs.{Job, in_flight, is_in_job}
-use Rattle.blob_model.specs.Pages.{Page, Place, asked, in_memory, in_page, is_page, lists, page_size, page_with, pages, place, place_by, planned_place, reserved, unlisted_place}
+use Rattle.blob_model.specs.Pages.{Page, Place, asked, in_memory, in_page, is_page, lists}
+use Rattle.blob_model.specs.Pages.{page_size, page_with, pages, place, place_by, planned_place, reserved, unlisted_place}
 use Rattle.blob_model.specs.Pieces.{Piece, length_in, pieces}
 use Rattle.blob_model.specs.Reached.{reached}
 use Rattle.blob_model.specs.Tally.{in_page_of, job_left_in}
-use Rattle.blob_model.proofs.Lists.{all_reverse, both, false_true, for_both, for_each, found_all, found_filter, found_true, or_cases, or_first, or_second, some_of}
+use Rattle.blob_model.proofs.Lists.{all_reverse, both, false_true, for_both, for_each, found_all}
+use Rattle.blob_model.proofs.Lists.{found_filter, found_true, or_cases, or_first, or_second, some_of}
 use Rattle.blob_model.proofs.builds.PieceNumbers.{FoundIn, all_by_number, found_number, pieces_numbered}
 use Rattle.model_bridges.specs.Bridges.{held_numbers, job_as}
 use Rattle.store_laws.specs.Cells.{piece_in}
-use Rattle.store_laws.specs.Items.{Facts, IsPlaced, holds_piece, is_number, piece_at, piece_by, piece_of_item}
+use Rattle.store_laws.specs.Items.{Facts, IsPlaced, holds_piece, is_number, piece_at, piece_by}
 use Rattle.store_laws.specs.PageFiles.{Sheet, gone, holds_paged, is_paged_in, placed_from, sheet, sheet_of, sheets_from, torn, whole, with_held, writes}
 use Rattle.store_laws.specs.PageLaws.{ArePaged, DiskIsTold, IsUnasked, numbered_pages}
 use Rattle.store_laws.specs.ReachLaws.{AreGatheredApart, IsApart, IsAtRest, IsCounted}
@@ -50,7 +53,8 @@ any_found : {X : Type 0} (p test : X → Bool) (xs : List X) (x : X) → find p 
 any_found p test [] x there e = absurd (cc there)
 any_found p test (y ∷ xs) x there e = go (p y) there (any_found p test xs x)
   where
-    go : (b : Bool) → cond b (Some y) (find p xs) ≡ Some x → (find p xs ≡ Some x → test x ≡ true → list_any test xs ≡ true) → (test y || list_any test xs) ≡ true
+    go : (b : Bool) → cond b (Some y) (find p xs) ≡ Some x → (find p xs ≡ Some x → test x ≡ true → list_any test xs ≡ true)
+        → (test y || list_any test xs) ≡ true
     go true f rest = let same : y ≡ x = cc in or_first (test y) (list_any test xs) (ap test same ∙ e)
     go false f rest = or_second (test y) (list_any test xs) (rest f e)
 
@@ -68,7 +72,8 @@ some_length : {X : Type 0} (test : X → Bool) (xs : List X) → nat_lt 0 (lengt
 some_length test [] = refl
 some_length {X = X} test (x ∷ xs) = go (test x) (some_length test xs)
   where
-    go : (b : Bool) → nat_lt 0 (length (filter test xs)) ≡ list_any test xs → nat_lt 0 (length (cond b (x ∷ filter test xs) (filter test xs))) ≡ (b || list_any test xs)
+    go : (b : Bool) → nat_lt 0 (length (filter test xs)) ≡ list_any test xs → nat_lt 0 (length (cond b (x ∷ filter test xs) (filter test xs))) ≡
+        (b || list_any test xs)
     go true rest = lt-ltb 0 (length (x ∷ filter test xs)) (omega arith)
     go false rest = rest
 
@@ -98,7 +103,8 @@ placed_some all is_there off [] = refl
 placed_some all is_there off (number ∷ list) = go (is_there number) (placed_some all is_there (off + length_in all number) list)
   where
     go : (b : Bool) → has_some (placed_from all is_there (off + length_in all number) list) ≡ list_any is_there list
-        → has_some (cond b ((number, off, length_in all number) ∷ placed_from all is_there (off + length_in all number) list) (placed_from all is_there (off + length_in all number) list))
+        → has_some (cond b ((number, off, length_in all number) ∷ placed_from all is_there (off + length_in all number) list) (placed_from all is_there
+        (off + length_in all number) list))
         ≡ (b || list_any is_there list)
     go true rest = refl
     go false rest = rest
@@ -126,8 +132,10 @@ same_charge (Whole size []) = refl
 same_charge (Whole size (held ∷ pieces)) = refl
 same_charge Asked = refl
 
-module _ (s : Session) (h : History) (stands : ℕ → Bool) (book : Book) (shares : List (Option Share)) (rows : List (Option Row)) (quota : Queue) (files : Files) (order : List (ℕ × ℕ))
-    (contents : ContentsStand s h stands book shares rows quota files order) (exact : AreExact s h stands) (rest : IsAtRest s.limits.page h) (counted : IsCounted book shares rows)
+module _ (s : Session) (h : History) (stands : ℕ → Bool) (book : Book) (shares : List (Option Share)) (rows : List (Option Row)) (quota : Queue)
+    (files : Files) (order : List (ℕ × ℕ))
+    (contents : ContentsStand s h stands book shares rows quota files order) (exact : AreExact s h stands) (rest : IsAtRest s.limits.page h)
+    (counted : IsCounted book shares rows)
     (apart : AreGatheredApart s h shares rows) (paged : ArePaged s h shares rows files) where
   abbrev blobs : List Build
   blobs = builds s.limits.page h
@@ -164,11 +172,13 @@ module _ (s : Session) (h : History) (stands : ℕ → Bool) (book : Book) (shar
       go None placed f = absurd (cc f)
       go (Some (Memory piece bytes)) placed f =
           in_all (piece_in all number)
-          (λ (one : Piece). ((facts_of s h).granted one ≡ true) × ((facts_of s h).place one ≡ in_memory) × (bytes ≡ (facts_of s h).bytes one) × (length bytes ≡ one.len)) refl
+          (λ (one : Piece). ((facts_of s h).granted one ≡ true) × ((facts_of s h).place one ≡ in_memory) × (bytes ≡ (facts_of s h).bytes one) ×
+          (length bytes ≡ one.len)) refl
           (moved piece.0 _ (some_same piece.0 number f) placed)
       go (Some (Paged piece page off len)) placed f =
           in_all (piece_in all number)
-          (λ (one : Piece). ((facts_of s h).granted one ≡ true) × ((facts_of s h).place one ≡ in_page page.0) × (off ≡ (facts_of s h).offset one) × (len ≡ one.len)) refl
+          (λ (one : Piece). ((facts_of s h).granted one ≡ true) × ((facts_of s h).place one ≡ in_page page.0) × (off ≡ (facts_of s h).offset one) ×
+          (len ≡ one.len)) refl
           (moved piece.0 _ (some_same piece.0 number f) placed)
       go (Some (Reserved piece len)) placed f =
           in_all (piece_in all number) (λ (one : Piece). ((facts_of s h).granted one ≡ true) × ((facts_of s h).place one ≡ reserved) × (len ≡ one.len)) refl
@@ -178,7 +188,8 @@ module _ (s : Session) (h : History) (stands : ℕ → Bool) (book : Book) (shar
 
   -- ---- the job in flight
 
-  job_among : (number : ℕ) → is_in_job h number ≡ true → list_any (λ (piece : Piece). piece.number == number) (reached s.limits.page h) ≡ holds_piece shares number
+  job_among : (number : ℕ) → is_in_job h number ≡ true → list_any (λ (piece : Piece). piece.number == number)
+      (reached s.limits.page h) ≡ holds_piece shares number
   job_among number named =
       ap (list_any (λ (piece : Piece). piece.number == number)) (sym reached_are)
       ∙ iff_true (list_any (λ (piece : Piece). piece.number == number) (filter keeps all)) (holds_piece shares number)
@@ -197,7 +208,8 @@ module _ (s : Session) (h : History) (stands : ℕ → Bool) (book : Book) (shar
       any_found (λ (piece : Piece). piece.number == number) (λ (piece : Piece). piece.number == number) (filter keeps all) one.0
       (found_filter (λ (piece : Piece). piece.number == number) keeps all one.0 one.1 kept) (eq-eqb one.0.number number is))
 
-  filter_named : (job : Job) → in_flight h ≡ Some job → (list : List ℕ) → ((number : ℕ) → list_any (λ (each : ℕ). each == number) list ≡ true → list_any (λ (each : ℕ). each == number) job.pieces ≡ true)
+  filter_named : (job : Job) → in_flight h ≡ Some job → (list : List ℕ) → ((number : ℕ) → list_any (λ (each : ℕ). each == number) list ≡ true
+      → list_any (λ (each : ℕ). each == number) job.pieces ≡ true)
       → filter (λ (number : ℕ). list_any (λ (piece : Piece). piece.number == number) (reached s.limits.page h)) list ≡ filter (holds_piece shares) list
   filter_named job flying [] among = refl
   filter_named job flying (number ∷ list) among =
@@ -211,7 +223,8 @@ module _ (s : Session) (h : History) (stands : ℕ → Bool) (book : Book) (shar
       ∙ ap (λ (xs : List ℕ). cond (holds_piece shares number) (number ∷ xs) xs)
       (filter_named job flying list (λ each e. among each (or_second (number == each) (list_any (λ (other : ℕ). other == each) list) e)))
 
-  sum_lengths : (list : List Held) → AllByRecursion (λ (held : Held). held.len ≡ length_in all held.piece.0) list → held_bytes list ≡ sum_by (length_in all) (held_numbers list)
+  sum_lengths : (list : List Held) → AllByRecursion (λ (held : Held). held.len ≡ length_in all held.piece.0) list
+      → held_bytes list ≡ sum_by (length_in all) (held_numbers list)
   sum_lengths [] each = refl
   sum_lengths (held ∷ list) each =
       let here = each.0 in
@@ -222,7 +235,8 @@ module _ (s : Session) (h : History) (stands : ℕ → Bool) (book : Book) (shar
   job_charged = sum_lengths (left_of files.job) paged.lengths ∙ ap (sum_by (length_in all)) (go files.job (in_flight h) refl contents.page_files_stand.job)
     where
       go : (one : Option FlyingJob) (flying : Option Job) → in_flight h ≡ flying → option_map job_as one ≡ option_map (with_held (holds_piece shares)) flying
-          → held_numbers (left_of one) ≡ option_map_or (λ (job : Job). filter (λ (number : ℕ). list_any (λ (piece : Piece). piece.number == number) (reached s.limits.page h)) job.pieces) flying []
+          → held_numbers (left_of one) ≡ option_map_or (λ (job : Job). filter (λ (number : ℕ). list_any (λ (piece : Piece). piece.number == number)
+          (reached s.limits.page h)) job.pieces) flying []
       go None None at e = refl
       go None (Some job) at e = absurd (cc e)
       go (Some one) None at e = absurd (cc e)
@@ -248,13 +262,16 @@ module _ (s : Session) (h : History) (stands : ℕ → Bool) (book : Book) (shar
   at_paged : (page number slot : ℕ) (list : List (Option Share)) (item : Item) → item_at list slot ≡ Some item → is_paged_in page number item ≡ true
       → holds_paged list page number ≡ true
   at_paged page number slot [] item at e = absurd (cc at)
-  at_paged page number zero (share ∷ list) item at e = or_first (option_map_or (λ (one : Share). is_paged_in page number one.item) share false) (holds_paged list page number) (by share at)
+  at_paged page number zero (share ∷ list) item at e = or_first (option_map_or (λ (one : Share). is_paged_in page number one.item) share false)
+      (holds_paged list page number) (by share at)
     where
-      by : (share : Option Share) → option_map (λ (one : Share). one.item) share ≡ Some item → option_map_or (λ (one : Share). is_paged_in page number one.item) share false ≡ true
+      by : (share : Option Share) → option_map (λ (one : Share). one.item) share ≡ Some item
+          → option_map_or (λ (one : Share). is_paged_in page number one.item) share false ≡ true
       by None f = absurd (cc f)
       by (Some one) f = let same : one.item ≡ item = cc in ap (is_paged_in page number) same ∙ e
   at_paged page number (suc slot) (share ∷ list) item at e =
-      or_second (option_map_or (λ (one : Share). is_paged_in page number one.item) share false) (holds_paged list page number) (at_paged page number slot list item at e)
+      or_second (option_map_or (λ (one : Share). is_paged_in page number one.item) share false) (holds_paged list page number)
+      (at_paged page number slot list item at e)
 
   -- what an item in a page file says
   pub record IsThere (page number : ℕ) : Type 0 where
@@ -273,7 +290,8 @@ module _ (s : Session) (h : History) (stands : ℕ → Bool) (book : Book) (shar
       go one.0 one.1 one.2 (subst (λ (o : Option Item). IfSome o (IsPlaced all facts)) one.2 (contents.items.each one.0))
       (subst (λ (o : Option Item). IfSome o (IsUnasked (asked h))) one.2 (paged.unasked one.0)) one.3
     where
-      found_by : (slot : ℕ) → piece_at shares slot ≡ Some number → (o : Option Piece) (P : Piece → Type 0) → piece_in all number ≡ o → IsSomeAnd o P → ((piece : Piece) → P piece → place s.limits.page h piece ≡ in_page page)
+      found_by : (slot : ℕ) → piece_at shares slot ≡ Some number → (o : Option Piece) (P : Piece → Type 0) → piece_in all number ≡ o → IsSomeAnd o P
+          → ((piece : Piece) → P piece → place s.limits.page h piece ≡ in_page page)
           → list_any (λ (each : ℕ). each == page) (asked h) ≡ false → IsThere page number
       found_by slot at None P is some says free = absurd some
       found_by slot at (Some piece) P is some says free =
@@ -285,14 +303,16 @@ module _ (s : Session) (h : History) (stands : ℕ → Bool) (book : Book) (shar
             unasked = free;
           }
 
-      go : (slot : ℕ) (item : Item) → item_at shares slot ≡ Some item → IsPlaced all facts item → IsUnasked (asked h) item → is_paged_in page number item ≡ true → IsThere page number
+      go : (slot : ℕ) (item : Item) → item_at shares slot ≡ Some item → IsPlaced all facts item → IsUnasked (asked h) item
+          → is_paged_in page number item ≡ true → IsThere page number
       go slot (Paged piece file off len) at placed free f =
           let parts = and_parts (piece.0 == number) (file.0 == page) f in
           let number_is : piece.0 ≡ number = eqb-true piece.0 number parts.0 in
           let page_is : file.0 ≡ page = eqb-true file.0 page parts.1 in
           found_by slot (ap piece_by at ∙ ap (λ (n : ℕ). Some n) number_is) (piece_in all number)
           (λ (one : Piece). (facts.granted one ≡ true) × (facts.place one ≡ in_page file.0) × (off ≡ facts.offset one) × (len ≡ one.len)) refl
-          (subst (λ (n : ℕ). IsSomeAnd (piece_in all n) (λ (one : Piece). (facts.granted one ≡ true) × (facts.place one ≡ in_page file.0) × (off ≡ facts.offset one) × (len ≡ one.len))) number_is placed)
+          (subst (λ (n : ℕ). IsSomeAnd (piece_in all n) (λ (one : Piece). (facts.granted one ≡ true) × (facts.place one ≡ in_page file.0) ×
+          (off ≡ facts.offset one) × (len ≡ one.len))) number_is placed)
           (λ one says. says.1 ∙ ap in_page page_is) (subst (λ (n : ℕ). list_any (λ (each : ℕ). each == n) (asked h) ≡ false) page_is free)
       go slot (Memory piece bytes) at placed free f = absurd (false_true f)
       go slot (Reserved piece len) at placed free f = absurd (false_true f)
@@ -318,16 +338,20 @@ module _ (s : Session) (h : History) (stands : ℕ → Bool) (book : Book) (shar
       placed_at : (number : ℕ) (P : Piece → Type 0) → number ≡ piece.number → IsSomeAnd (piece_in all number) P → P piece
       placed_at number P same is = subst (λ (o : Option Piece). IsSomeAnd o P) found (subst (λ (m : ℕ). IsSomeAnd (piece_in all m) P) same is)
 
-      go : (slot : ℕ) (o : Option Item) → item_at shares slot ≡ o → IfSome o (IsPlaced all facts) → piece_by o ≡ Some piece.number → holds_paged shares n piece.number ≡ true
+      go : (slot : ℕ) (o : Option Item) → item_at shares slot ≡ o → IfSome o (IsPlaced all facts) → piece_by o ≡ Some piece.number
+          → holds_paged shares n piece.number ≡ true
       go slot None held placed f = absurd (cc f)
       go slot (Some (Paged number file off len)) held placed f =
           let same = some_same number.0 piece.number f in
-          let says = placed_at number.0 (λ (one : Piece). (facts.granted one ≡ true) × (facts.place one ≡ in_page file.0) × (off ≡ facts.offset one) × (len ≡ one.len)) same placed in
+          let says = placed_at number.0 (λ (one : Piece). (facts.granted one ≡ true) × (facts.place one ≡ in_page file.0) × (off ≡ facts.offset one) ×
+          (len ≡ one.len)) same placed in
           let file_is : file.0 ≡ n = same_page file.0 n (sym says.1 ∙ at) in
-          at_paged n piece.number slot shares (Paged number file off len) held (both (number.0 == piece.number) (file.0 == n) (eq-eqb number.0 piece.number same) (eq-eqb file.0 n file_is))
+          at_paged n piece.number slot shares (Paged number file off len) held (both (number.0 == piece.number) (file.0 == n)
+          (eq-eqb number.0 piece.number same) (eq-eqb file.0 n file_is))
       go slot (Some (Memory number bytes)) held placed f =
           let same = some_same number.0 piece.number f in
-          let says = placed_at number.0 (λ (one : Piece). (facts.granted one ≡ true) × (facts.place one ≡ in_memory) × (bytes ≡ facts.bytes one) × (length bytes ≡ one.len)) same placed in
+          let says = placed_at number.0 (λ (one : Piece). (facts.granted one ≡ true) × (facts.place one ≡ in_memory) × (bytes ≡ facts.bytes one) ×
+          (length bytes ≡ one.len)) same placed in
           absurd (in_memory_not n (sym says.1 ∙ at))
       go slot (Some (Reserved number len)) held placed f =
           let same = some_same number.0 piece.number f in
@@ -352,17 +376,20 @@ module _ (s : Session) (h : History) (stands : ℕ → Bool) (book : Book) (shar
       go (Some (plans.TooMany what)) f = in_memory_not n f
 
   -- a piece whose place is a page file is listed there
-  listed : (n : ℕ) (list : List ℕ) (piece : Piece) → get_or (writes h) n None ≡ Some list → place s.limits.page h piece ≡ in_page n → list_any (λ (each : ℕ). each == piece.number) list ≡ true
+  listed : (n : ℕ) (list : List ℕ) (piece : Piece) → get_or (writes h) n None ≡ Some list → place s.limits.page h piece ≡ in_page n
+      → list_any (λ (each : ℕ). each == piece.number) list ≡ true
   listed n list piece written at = go (page_with (pages h) piece.number) refl at
     where
       all_written : AllByRecursion (IsWrittenAt 0 (writes h)) (pages h)
       all_written = subst (AllByRecursion (IsWrittenAt 0 (writes h))) (sym paged.in_turn) (written_pages 0 (writes h))
 
-      go : (o : Option Page) → page_with (pages h) piece.number ≡ o → place_by o (build_in blobs piece.blob) ≡ in_page n → list_any (λ (each : ℕ). each == piece.number) list ≡ true
+      go : (o : Option Page) → page_with (pages h) piece.number ≡ o → place_by o (build_in blobs piece.blob) ≡ in_page n
+          → list_any (λ (each : ℕ). each == piece.number) list ≡ true
       go None found e = absurd (unlisted (build_in blobs piece.blob) n e)
       go (Some page) found e =
           let number_is : page.number ≡ n = same_page page.number n e in
-          let is = found_all (IsWrittenAt 0 (writes h)) (λ (one : Page). lists one piece.number) (reverse (pages h)) page (all_reverse (IsWrittenAt 0 (writes h)) (pages h) all_written) found in
+          let is = found_all (IsWrittenAt 0 (writes h)) (λ (one : Page). lists one piece.number) (reverse (pages h)) page (all_reverse (IsWrittenAt 0
+          (writes h)) (pages h) all_written) found in
           let at_is = is.1 in
           let k_is : is.0 ≡ n = omega (arith, at_is, number_is) in
           let two : Some page.pieces ≡ Some list = sym is.2 ∙ ap (λ (k : ℕ). get_or (writes h) k None) k_is ∙ written in
@@ -396,13 +423,17 @@ module _ (s : Session) (h : History) (stands : ℕ → Bool) (book : Book) (shar
       let one = some_of (holds_paged shares n) list parts.1 in
       let is = there n one.0 one.1 in
       let number_is : is.piece.number ≡ one.0 = found_number all one.0 is.piece is.found in
-      let kept : keeps is.piece ≡ true = or_first (holds_piece shares is.piece.number) (is_gathered blobs rows is.piece.blob) (ap (holds_piece shares) number_is ∙ is.held) in
+      let kept : keeps is.piece ≡ true = or_first (holds_piece shares is.piece.number) (is_gathered blobs rows is.piece.blob) (ap
+      (holds_piece shares) number_is ∙ is.held) in
       ap (list_any (in_this n)) (sym reached_are)
-      ∙ any_found (λ (piece : Piece). piece.number == one.0) (in_this n) (filter keeps all) is.piece (found_filter (λ (piece : Piece). piece.number == one.0) keeps all is.piece is.found kept)
+      ∙ any_found (λ (piece : Piece). piece.number == one.0) (in_this n) (filter keeps all) is.piece (found_filter (λ
+      (piece : Piece). piece.number == one.0) keeps all is.piece is.found kept)
       (ap (is_page n) is.place_is ∙ eq-eqb n n refl))
       (λ e.
-      some_passing (λ (piece : Piece). (FoundIn all piece.number piece) × IsApart s h shares rows piece) ((not (is_asked n) && list_any (holds_paged shares n) list) ≡ true) keeps (in_this n) all
-      (for_both (λ (piece : Piece). FoundIn all piece.number piece) (IsApart s h shares rows) (λ (piece : Piece). (FoundIn all piece.number piece) × IsApart s h shares rows piece) all
+      some_passing (λ (piece : Piece). (FoundIn all piece.number piece) × IsApart s h shares rows piece) ((not (is_asked n) && list_any
+      (holds_paged shares n) list) ≡ true) keeps (in_this n) all
+      (for_both (λ (piece : Piece). FoundIn all piece.number piece) (IsApart s h shares rows) (λ (piece : Piece).
+      (FoundIn all piece.number piece) × IsApart s h shares rows piece) all
       (λ piece one two. (one, two)) numbers_found apart)
       (λ piece facts_are kept is.
       let at = page_place n (place s.limits.page h piece) is in
@@ -410,7 +441,8 @@ module _ (s : Session) (h : History) (stands : ℕ → Bool) (book : Book) (shar
       (λ (held : holds_piece shares piece.number ≡ true).
       let here = held_there n piece facts_are.0 held at in
       let free = (there n piece.number here).unasked in
-      both (not (is_asked n)) (list_any (holds_paged shares n) list) (ap not free) (any_at (holds_paged shares n) piece.number list here (listed n list piece written at)))
+      both (not (is_asked n)) (list_any (holds_paged shares n) list) (ap not free) (any_at (holds_paged shares n) piece.number list here
+      (listed n list piece written at)))
       (λ (gathers : is_gathered blobs rows piece.blob ≡ true). absurd (in_memory_not n (sym (facts_are.1 gathers).1 ∙ at)))
       (or_cases (holds_piece shares piece.number) (is_gathered blobs rows piece.blob) kept)) (ap (list_any (in_this n)) reached_are ∙ e))
 
@@ -424,18 +456,22 @@ module _ (s : Session) (h : History) (stands : ℕ → Bool) (book : Book) (shar
   sheet_has false size held b e = e
 
   sheet_costs : (a : Bool) (size : ℕ) (held : List (ℕ × ℕ × ℕ))
-      → cond (sheet_held (cond a gone (whole size held))) (sheet_size (cond a gone (whole size held))) 0 ≡ cond (sheet_held (cond a gone (whole size held))) size 0
+      → cond (sheet_held (cond a gone (whole size held))) (sheet_size (cond a gone (whole size held))) 0 ≡ cond (sheet_held (cond a gone
+      (whole size held))) size 0
   sheet_costs true size held = refl
   sheet_costs false size held = refl
 
   -- the charge and the number of page files, from a number on
   abbrev AreCharged : ℕ → List (Option (List ℕ)) → List FilePage → Type 0
   AreCharged n written list =
-      (page_charge list ≡ sum_by (page_size all) (filter reaches_in (numbered_pages n written))) × (held_count list ≡ length (filter reaches_in (numbered_pages n written)))
+      (page_charge list ≡ sum_by (page_size all) (filter reaches_in (numbered_pages n written))) × (held_count list ≡ length (filter reaches_in
+      (numbered_pages n written)))
 
-  one_more : (b : Bool) (page : FilePage) (list : List FilePage) (file : Page) (others : List Page) → is_held_page page ≡ b → charge_of page ≡ cond b (page_size all file) 0
+  one_more : (b : Bool) (page : FilePage) (list : List FilePage) (file : Page) (others : List Page) → is_held_page page ≡ b
+      → charge_of page ≡ cond b (page_size all file) 0
       → (page_charge list ≡ sum_by (page_size all) others) × (held_count list ≡ length others)
-      → (page_charge (page ∷ list) ≡ sum_by (page_size all) (cond b (file ∷ others) others)) × (held_count (page ∷ list) ≡ length (cond b (file ∷ others) others))
+      → (page_charge (page ∷ list) ≡ sum_by (page_size all) (cond b (file ∷ others) others)) × (held_count (page ∷ list) ≡ length (cond b
+      (file ∷ others) others))
   one_more true page list file others held costs more =
       let sums = more.0 in
       let counts = more.1 in

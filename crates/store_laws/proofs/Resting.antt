@@ -1,5 +1,5 @@
 -- In a settled history each source of an unfinished live blob lives and isn't broken.
-use Rattle.std.proofs.Common.{◌≡◌, ℕ, ◌==◌, ◌⊎◌, Bool, true, false, List, [], ◌∷◌, ◌++◌, refl, ap, subst, sym, ◌∙◌, Option, Some, None, ⊎_elim, cond}
+use Rattle.std.proofs.Common.{◌≡◌, ℕ, ◌⊎◌, Bool, true, false, List, [], ◌∷◌, refl, ap, subst, sym, ◌∙◌, Option, Some, None, ⊎_elim, cond}
 use Rattle.std.specs.Prelude.{filter, IfSome}
 use Rattle.std.specs.Option.{option_to_list}
 use Rattle.std.specs.List.{AllByRecursion, list_any}
@@ -11,10 +11,8 @@ use Rattle.blob_entries.specs.Statuses.{is_pending}
 use Rattle.blob_model.specs.Session.{Session}
 use Rattle.blob_model.specs.History.{History, history_from, said_all, start}
 use Rattle.blob_model.specs.Builds.{Build, builds}
-use Rattle.blob_model.specs.Choice.{first_that}
 use Rattle.blob_model.specs.Legal.{IsLegalFrom}
 use Rattle.blob_model.specs.Live.{has_source, is_live, live}
-use Rattle.blob_model.specs.Order.{Distinct}
 use Rattle.blob_model.specs.Parts.{sources}
 use Rattle.blob_model.specs.Settle.{compactions, drops, ending, ending_answers, ending_tests, endings, endings_of, grants, page_jobs, removals}
 use Rattle.blob_model.specs.Standing.{ended, is_broken, is_broken_status, is_unfinished}
@@ -22,7 +20,6 @@ use Rattle.blob_model.proofs.Lists.{false_true}
 use Rattle.blob_model.proofs.builds.Cells.{none_applies}
 use Rattle.blob_model.proofs.builds.Order.{ordered_distinct}
 use Rattle.blob_model.proofs.kept.Groups.{kept_from, kept_start}
-use Rattle.blob_model.proofs.kept.Kept.{Kept}
 use Rattle.blob_model.proofs.kept.NewBlobs.{fails_at}
 use Rattle.blob_model.proofs.legal.Steps.{caused_from}
 use Rattle.blob_model.proofs.live.Closed.{live_closed}
@@ -47,12 +44,14 @@ ends_apart (Some status) end =
     by status e = refl
 
 -- what passes a test is said of those that pass
-unfiltered : (P : Build → Type 0) (test : Build → Bool) (xs : List Build) → AllByRecursion P (filter test xs) → AllByRecursion (λ (x : Build). test x ≡ true → P x) xs
+unfiltered : (P : Build → Type 0) (test : Build → Bool) (xs : List Build) → AllByRecursion P (filter test xs)
+    → AllByRecursion (λ (x : Build). test x ≡ true → P x) xs
 unfiltered P test [] all = tt
 unfiltered P test (x ∷ xs) all = go (test x) refl all (unfiltered P test xs)
   where
     go : (b : Bool) → test x ≡ b → AllByRecursion P (cond b (x ∷ filter test xs) (filter test xs))
-        → (AllByRecursion P (filter test xs) → AllByRecursion (λ (y : Build). test y ≡ true → P y) xs) → AllByRecursion (λ (y : Build). test y ≡ true → P y) (x ∷ xs)
+        → (AllByRecursion P (filter test xs) → AllByRecursion (λ (y : Build). test y ≡ true → P y) xs) → AllByRecursion (λ (y : Build). test y ≡ true
+        → P y) (x ∷ xs)
     go true at all rest = ((λ e. all.0), rest all.1)
     go false at all rest = ((λ e. absurd (false_true (sym at ∙ e))), rest all)
 
@@ -68,7 +67,8 @@ each_ends s h (build ∷ list) e =
     (parts.0, each_ends s h list (subst (λ (xs : List Answer). endings_of s (said_all h xs) list ≡ []) parts.0 parts.1))
 
 -- an unfinished blob of which no ending is owed has no broken source
-no_broken : (s : Session) (h : History) (build : Build) → ending_answers s h build ≡ [] → is_unfinished h build.name ≡ true → list_any (is_broken h) (sources build.parts) ≡ false
+no_broken : (s : Session) (h : History) (build : Build) → ending_answers s h build ≡ [] → is_unfinished h build.name ≡ true
+    → list_any (is_broken h) (sources build.parts) ≡ false
 no_broken s h build none begun =
     go (ending s h build) refl (sym (ap (λ (b : Bool). cond b (option_to_list (ending s h build)) []) begun) ∙ none)
   where
@@ -87,12 +87,15 @@ rests_when_settled s groups legal =
       planned = kept.broke;
       ends = λ name. ends_apart (ended (history_from start groups) name) (ends_well s (history_from start groups) name (caused_from s groups legal));
       sources = both_of
-          (λ (build : Build). is_live s.limits.page (history_from start groups) build.name ≡ true → is_unfinished (history_from start groups) build.name ≡ true → (source : ℕ)
+          (λ (build : Build). is_live s.limits.page (history_from start groups) build.name ≡ true
+          → is_unfinished (history_from start groups) build.name ≡ true → (source : ℕ)
           → has_source build source ≡ true → is_live s.limits.page (history_from start groups) source ≡ true)
           (λ (build : Build). ending_answers s (history_from start groups) build ≡ [])
-          (λ (build : Build). is_live s.limits.page (history_from start groups) build.name ≡ true → is_unfinished (history_from start groups) build.name ≡ true → (source : ℕ)
+          (λ (build : Build). is_live s.limits.page (history_from start groups) build.name ≡ true
+          → is_unfinished (history_from start groups) build.name ≡ true → (source : ℕ)
           → has_source build source ≡ true
-          → (is_live s.limits.page (history_from start groups) source ≡ true) × (is_broken (history_from start groups) source ≡ false)) (builds s.limits.page (history_from start groups))
+          → (is_live s.limits.page (history_from start groups) source ≡ true) × (is_broken (history_from start groups) source ≡ false))
+          (builds s.limits.page (history_from start groups))
           (λ build lives none live begun source has. (
             lives live begun source has,
             fails_at (is_broken (history_from start groups)) (sources build.parts) source (no_broken s (history_from start groups) build none begun) has,
@@ -105,6 +108,7 @@ rests_when_settled s groups legal =
           (λ (xs : List Build).
           AllByRecursion (λ (build : Build). is_unfinished (history_from start groups) build.name ≡ true → (source : ℕ) → has_source build source ≡ true
           → is_live s.limits.page (history_from start groups) source ≡ true) xs)
-          (live_named s.limits.page (history_from start groups) (ordered_distinct [] (builds s.limits.page (history_from start groups)) kept.ordered)) (live_closed s groups legal)))
+          (live_named s.limits.page (history_from start groups) (ordered_distinct [] (builds s.limits.page (history_from start groups)) kept.ordered))
+          (live_closed s groups legal)))
           (each_ends s (history_from start groups) (builds s.limits.page (history_from start groups)) settled.1.0);
     }

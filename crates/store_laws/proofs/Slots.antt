@@ -1,18 +1,18 @@
 -- The data handles that items hold are those reached.
-use Rattle.std.proofs.Common.{◌≡◌, ℕ, zero, suc, ◌+◌, ◌==◌, ◌<◌, ◌≤◌, ◌⊎◌, Bool, true, false, ◌&&◌, ◌||◌, not, List, [], ◌∷◌, ◌++◌, map, refl, ap, subst, sym, ◌∙◌, arith, Option, Some, None, inl, inr, ⊎_elim, cond}
+use Rattle.std.proofs.Common.{◌≡◌, ℕ, zero, suc, ◌+◌, ◌==◌, ◌<◌, ◌≤◌, ◌⊎◌, Bool, true, false, ◌&&◌, ◌||◌, not, List}
+use Rattle.std.proofs.Common.{[], ◌∷◌, ◌++◌, map, refl, ap, sym, ◌∙◌, arith, Option, Some, None, inl, inr, ⊎_elim, cond}
 use Rattle.std.specs.Prelude.{count_by, filter, flat_map, IfSome, IsSomeAnd}
 use Rattle.std.specs.Option.{option_map, option_map_or}
 use Rattle.std.specs.List.{AllByRecursion, list_any, range_with_len}
 use Rattle.std.proofs.lemmas.Bool.{eqb-true}
 use Rattle.std.proofs.lemmas.List.{map-append}
 use Rattle.std.proofs.lemmas.List.Folds.{list_any-append}
-use Rattle.blob_words.specs.declared.number.PieceNo.{PieceNo}
 use Rattle.blob_words.specs.declared.status.Status.{Status}
 use Rattle.blob_words.specs.declared.status.Status.TheVariants as statuses
 use Rattle.item_shares.specs.declared.item.Item.{Item}
 use Rattle.item_shares.specs.declared.item.Item.TheVariants.{Memory, Paged, Reserved, File, Range}
 use Rattle.item_shares.specs.declared.shares.Share.{Share}
-use Rattle.item_shares.specs.Shares.{AreViewed, item_at, share_at}
+use Rattle.item_shares.specs.Shares.{item_at, share_at}
 use Rattle.blob_items.specs.declared.view.View.{View}
 use Rattle.blob_items.specs.Cells.{cells, view_cells}
 use Rattle.blob_entries.specs.Book.{Book}
@@ -24,20 +24,20 @@ use Rattle.blob_entries.specs.declared.step.Step.{Step}
 use Rattle.blob_entries.specs.declared.step.Step.TheVariants.{Own, Fixed, Source}
 use Rattle.blob_model.specs.Session.{Session}
 use Rattle.blob_model.specs.History.{History}
-use Rattle.blob_model.specs.Builds.{Build, Cell, builds, filed, lent, sent}
+use Rattle.blob_model.specs.Builds.{Build, Cell, builds, filed, lent}
 use Rattle.blob_model.specs.Live.{live}
 use Rattle.blob_model.specs.Pieces.{Piece, pieces}
-use Rattle.blob_model.specs.Reached.{is_of_slot, is_slot_reached, live_cells, some_passes}
+use Rattle.blob_model.specs.Reached.{is_of_slot, is_slot_reached, live_cells}
 use Rattle.blob_model.specs.Standing.{is_broken as is_broken_now}
 use Rattle.blob_model.proofs.Lists.{append_second, false_true, for_each, or_cases, or_first, or_second}
 use Rattle.blob_model.proofs.memory.Shrinking.{some_twice}
 use Rattle.page_files.specs.Files.{Files}
 use Rattle.quota_queue.specs.Queue.{Queue}
 use Rattle.store_laws.specs.Cells.{cell_at, denoted, item_cell, piece_cell, piece_in}
-use Rattle.store_laws.specs.Having.{has_by, has_slot, is_range_at, is_range_step, is_unbroken, reaches}
+use Rattle.store_laws.specs.Having.{has_by, has_slot, is_range_at, is_range_step, reaches}
 use Rattle.store_laws.specs.Items.{IsInside, IsLongAs, holds_slot, is_range_of, item_length, piece_at, piece_by, piece_of_item}
 use Rattle.store_laws.specs.ReachLaws.{IsAtRest, IsCounted}
-use Rattle.store_laws.specs.Recipes.{EntryStands, IsEntryFor, IsStep, RowsBeside, StandsFor, own_cells, own_step_cells}
+use Rattle.store_laws.specs.Recipes.{EntryStands, IsEntryFor, RowsBeside, StandsFor, own_step_cells}
 use Rattle.store_laws.specs.Rows.{AreWritten, Coming, Row, coming_slots, gathering, pinned, settled, waiting, writing}
 use Rattle.store_laws.specs.Stands.{AreExact, ContentsStand}
 use Rattle.store_laws.specs.Uses.{own_pieces}
@@ -69,7 +69,8 @@ module _ (k : ℕ) where
   none_sent None off (suc len) = none_sent None (off + 1) len
   none_sent (Some piece) off (suc len) = none_sent (Some piece) (off + 1) len
 
-  none_filed : (name : List ℕ) (stamp start off len : ℕ) → list_any test (map (λ (place : ℕ). filed name stamp (start + place)) (range_with_len off len)) ≡ false
+  none_filed : (name : List ℕ) (stamp start off len : ℕ) → list_any test (map (λ (place : ℕ). filed name stamp (start + place))
+      (range_with_len off len)) ≡ false
   none_filed name stamp start off zero = refl
   none_filed name stamp start off (suc len) = none_filed name stamp start (off + 1) len
 
@@ -79,7 +80,8 @@ module _ (k : ℕ) where
   all_lent slot start off (suc (suc len)) some =
       ap (λ (b : Bool). (slot == k) || b) (all_lent slot start (off + 1) (suc len) (omega arith)) ∙ or_same (slot == k)
 
-  item_tested : (all : List Piece) (item : Item) (off len : ℕ) → 0 < len → list_any test (map (item_cell all item) (range_with_len off len)) ≡ is_range_of k item
+  item_tested : (all : List Piece) (item : Item) (off len : ℕ) → 0 < len → list_any test (map (item_cell all item)
+      (range_with_len off len)) ≡ is_range_of k item
   item_tested all (Memory piece bytes) off len some = none_sent (piece_in all piece.0) off len
   item_tested all (Paged piece page start size) off len some = none_sent (piece_in all piece.0) off len
   item_tested all (Reserved piece size) off len some = none_sent (piece_in all piece.0) off len
@@ -93,7 +95,8 @@ module _ (k : ℕ) where
     view_tested view None at inside = absurd inside
     view_tested view (Some item) at inside = ap (list_any test) (denoted-view all shares view item at) ∙ item_tested all item view.off view.len view.some
 
-    pub views_tested : (views : List View) → AllByRecursion (IsInside all shares) views → list_any test (denoted all shares views) ≡ list_any (is_range_at shares k) views
+    pub views_tested : (views : List View) → AllByRecursion (IsInside all shares) views → list_any test (denoted all shares views) ≡ list_any
+        (is_range_at shares k) views
     views_tested [] inside = refl
     views_tested (view ∷ views) inside =
         ap (list_any test) (map-append (cell_at all shares) (view_cells view) (cells views))
@@ -119,7 +122,8 @@ module _ (k : ℕ) where
     no_own (Fixed view ∷ recipe) = no_own recipe
     no_own (Source name off len ∷ recipe) = no_own recipe
 
-  fixed_as : (shares : List (Option Share)) (recipe : List Step) → list_any (is_range_at shares k) (fixed_views recipe) ≡ list_any (is_range_step shares k) recipe
+  fixed_as : (shares : List (Option Share)) (recipe : List Step) → list_any (is_range_at shares k) (fixed_views recipe) ≡ list_any
+      (is_range_step shares k) recipe
   fixed_as shares [] = refl
   fixed_as shares (Own number len ∷ recipe) = fixed_as shares recipe
   fixed_as shares (Fixed view ∷ recipe) = ap (λ (b : Bool). is_range_at shares k view || b) (fixed_as shares recipe)
@@ -134,7 +138,8 @@ LengthsAgree [] (row ∷ rows) = ⊥
 LengthsAgree (build ∷ list) [] = ⊥
 LengthsAgree (build ∷ list) (row ∷ rows) = LengthsAgree list rows
 
-lengths_agree : (s : Session) (h : History) (stands : ℕ → Bool) (list : List Build) (rows : List (Option Row)) → AreRowed s h stands list rows → LengthsAgree list rows
+lengths_agree : (s : Session) (h : History) (stands : ℕ → Bool) (list : List Build) (rows : List (Option Row)) → AreRowed s h stands list rows
+    → LengthsAgree list rows
 lengths_agree s h stands [] [] are = tt
 lengths_agree s h stands [] (row ∷ rows) are = absurd (cc are)
 lengths_agree s h stands (build ∷ list) [] are = absurd (cc are)
@@ -164,12 +169,14 @@ module _ (k : ℕ) (shares : List (Option Share)) where
           → option_map_or (λ (one : Share). is_range_of k one.item) share false ≡ true
       by None e = absurd (false_true e)
       by (Some one) e = e
-  at_holds (suc slot) (share ∷ list) e = or_second (option_map_or (λ (one : Share). is_range_of k one.item) share false) (holds_slot list k) (at_holds slot list e)
+  at_holds (suc slot) (share ∷ list) e = or_second (option_map_or (λ (one : Share). is_range_of k one.item) share false) (holds_slot list k)
+      (at_holds slot list e)
 
   views_hold : (views : List View) → list_any (is_range_at shares k) views ≡ true → holds_slot shares k ≡ true
   views_hold [] e = absurd (false_true e)
   views_hold (view ∷ views) e =
-      ⊎_elim (λ (here : is_range_at shares k view ≡ true). at_holds view.slot shares here) (λ (more : list_any (is_range_at shares k) views ≡ true). views_hold views more)
+      ⊎_elim (λ (here : is_range_at shares k view ≡ true). at_holds view.slot shares here) (λ (more : list_any
+      (is_range_at shares k) views ≡ true). views_hold views more)
       (or_cases (is_range_at shares k view) (list_any (is_range_at shares k) views) e)
 
   steps_hold : (recipe : List Step) → list_any (is_range_step shares k) recipe ≡ true → holds_slot shares k ≡ true
@@ -179,17 +186,21 @@ module _ (k : ℕ) (shares : List (Option Share)) where
   has_count : (slot : ℕ) → IfSome (share_at shares slot) (λ (share : Share). 0 < share.count) → at_slot slot ≡ true → 0 < count_at shares slot
   has_count slot viewed e = go (share_at shares slot) viewed e
     where
-      go : (o : Option Share) → IfSome o (λ (share : Share). 0 < share.count) → option_map_or (is_range_of k) (option_map (λ (share : Share). share.item) o) false ≡ true
+      go : (o : Option Share) → IfSome o (λ (share : Share). 0 < share.count) → option_map_or (is_range_of k) (option_map (λ
+          (share : Share). share.item) o) false ≡ true
           → 0 < option_map_or (λ (share : Share). share.count) o 0
       go None viewed e = absurd (false_true e)
       go (Some share) viewed e = viewed
 
-  on_views : (slot : ℕ) → at_slot slot ≡ true → (views : List View) → list_any (λ (view : View). view.slot == slot) views ≡ true → list_any (is_range_at shares k) views ≡ true
+  on_views : (slot : ℕ) → at_slot slot ≡ true → (views : List View) → list_any (λ (view : View). view.slot == slot) views ≡ true
+      → list_any (is_range_at shares k) views ≡ true
   on_views slot at [] e = absurd (false_true e)
   on_views slot at (view ∷ views) e =
       ⊎_elim
-      (λ (here : (view.slot == slot) ≡ true). or_first (is_range_at shares k view) (list_any (is_range_at shares k) views) (ap at_slot (eqb-true view.slot slot here) ∙ at))
-      (λ (more : list_any (λ (each : View). each.slot == slot) views ≡ true). or_second (is_range_at shares k view) (list_any (is_range_at shares k) views) (on_views slot at views more))
+      (λ (here : (view.slot == slot) ≡ true). or_first (is_range_at shares k view) (list_any (is_range_at shares k) views) (ap at_slot
+      (eqb-true view.slot slot here) ∙ at))
+      (λ (more : list_any (λ (each : View). each.slot == slot) views ≡ true). or_second (is_range_at shares k view) (list_any (is_range_at shares k) views)
+      (on_views slot at views more))
       (or_cases (view.slot == slot) (list_any (λ (each : View). each.slot == slot) views) e)
 
   -- a slot of a piece has no data handle
@@ -239,22 +250,27 @@ module _ (k : ℕ) (shares : List (Option Share)) where
 
 -- some of the unbroken blobs has a cell that passes
 filtered_any : (h : History) (test : Cell → Bool) (list : List Build)
-    → list_any (λ (cells : List Cell). list_any test cells) (map (λ (build : Build). build.cells) (filter (λ (build : Build). not (is_broken_now h build.name)) list))
+    → list_any (λ (cells : List Cell). list_any test cells) (map (λ (build : Build). build.cells) (filter (λ (build : Build). not
+    (is_broken_now h build.name)) list))
     ≡ list_any (λ (build : Build). not (is_broken_now h build.name) && list_any test build.cells) list
 filtered_any h test [] = refl
 filtered_any h test (build ∷ list) = go (is_broken_now h build.name) (filtered_any h test list)
   where
     go : (b : Bool)
-        → list_any (λ (cells : List Cell). list_any test cells) (map (λ (each : Build). each.cells) (filter (λ (each : Build). not (is_broken_now h each.name)) list))
+        → list_any (λ (cells : List Cell). list_any test cells) (map (λ (each : Build). each.cells) (filter (λ (each : Build). not
+        (is_broken_now h each.name)) list))
         ≡ list_any (λ (each : Build). not (is_broken_now h each.name) && list_any test each.cells) list
         → list_any (λ (cells : List Cell). list_any test cells)
-        (map (λ (each : Build). each.cells) (cond (not b) (build ∷ filter (λ (each : Build). not (is_broken_now h each.name)) list) (filter (λ (each : Build). not (is_broken_now h each.name)) list)))
+        (map (λ (each : Build). each.cells) (cond (not b) (build ∷ filter (λ (each : Build). not (is_broken_now h each.name)) list) (filter (λ
+        (each : Build). not (is_broken_now h each.name)) list)))
         ≡ ((not b && list_any test build.cells) || list_any (λ (each : Build). not (is_broken_now h each.name) && list_any test each.cells) list)
     go true rest = rest
     go false rest = ap (λ (b : Bool). list_any test build.cells || b) rest
 
-module _ (s : Session) (h : History) (stands : ℕ → Bool) (book : Book) (shares : List (Option Share)) (rows : List (Option Row)) (quota : Queue) (files : Files) (order : List (ℕ × ℕ))
-    (contents : ContentsStand s h stands book shares rows quota files order) (exact : AreExact s h stands) (rest : IsAtRest s.limits.page h) (counted : IsCounted book shares rows) (k : ℕ) where
+module _ (s : Session) (h : History) (stands : ℕ → Bool) (book : Book) (shares : List (Option Share)) (rows : List (Option Row)) (quota : Queue)
+    (files : Files) (order : List (ℕ × ℕ))
+    (contents : ContentsStand s h stands book shares rows quota files order) (exact : AreExact s h stands) (rest : IsAtRest s.limits.page h)
+    (counted : IsCounted book shares rows) (k : ℕ) where
   abbrev whole : List Build
   whole = builds s.limits.page h
 
@@ -274,7 +290,8 @@ module _ (s : Session) (h : History) (stands : ℕ → Bool) (book : Book) (shar
   none_of views none e = false_true (sym (ap (list_any on) none) ∙ e)
 
   -- an unbroken entry with a view on the item has the data handle
-  by_status : (build : Build) (entry : Entry) (status : Status) → IsEntryFor whole all shares own build entry → StandsFor whole all shares build.cells status entry
+  by_status : (build : Build) (entry : Entry) (status : Status) → IsEntryFor whole all shares own build entry
+      → StandsFor whole all shares build.cells status entry
       → is_broken status ≡ false
       → (list_any on (fixed_views entry.recipe) ≡ true) ⊎ ((list_any on (own_views entry.own) ≡ true) ⊎ (list_any on entry.views ≡ true))
       → has_by on (is_range_step shares k) status entry ≡ true
@@ -283,10 +300,12 @@ module _ (s : Session) (h : History) (stands : ℕ → Bool) (book : Book) (shar
       (λ more. ⊎_elim (λ brought. absurd (none_of (own_views entry.own) (ap own_views stands.2) brought)) (λ done. done) more) viewed
   by_status build entry statuses.PendingQuota fine stands sound viewed =
       ⊎_elim (λ fixed. sym (fixed_as k shares entry.recipe) ∙ fixed)
-      (λ more. ⊎_elim (λ brought. absurd (none_of (own_views entry.own) (ap own_views stands.2) brought)) (λ done. absurd (none_of entry.views stands.1 done)) more) viewed
+      (λ more. ⊎_elim (λ brought. absurd (none_of (own_views entry.own) (ap own_views stands.2) brought)) (λ done. absurd
+      (none_of entry.views stands.1 done)) more) viewed
   by_status build entry statuses.PendingTransport fine stands sound viewed =
       ⊎_elim (λ fixed. sym (fixed_as k shares entry.recipe) ∙ fixed)
-      (λ more. ⊎_elim (λ brought. absurd (none_of (own_views entry.own) (ap own_views stands.2) brought)) (λ done. absurd (none_of entry.views stands.1 done)) more) viewed
+      (λ more. ⊎_elim (λ brought. absurd (none_of (own_views entry.own) (ap own_views stands.2) brought)) (λ done. absurd
+      (none_of entry.views stands.1 done)) more) viewed
   by_status build entry statuses.PendingReferencedBlobs fine stands sound viewed =
       ⊎_elim (λ fixed. sym (fixed_as k shares entry.recipe) ∙ fixed)
       (λ more.
@@ -294,7 +313,8 @@ module _ (s : Session) (h : History) (stands : ℕ → Bool) (book : Book) (shar
       (λ brought.
       let inside = append_second (IsInside all shares) (fixed_views entry.recipe) (own_views entry.own)
       (append_first (IsInside all shares) (fixed_views entry.recipe ++ own_views entry.own) entry.views fine.inside) in
-      absurd (false_true (sym (no_own k all shares entry.recipe) ∙ sym (ap (list_any (is_of_slot k)) stands.2) ∙ views_tested k all shares (own_views entry.own) inside ∙ brought)))
+      absurd (false_true (sym (no_own k all shares entry.recipe) ∙ sym (ap (list_any (is_of_slot k)) stands.2)
+      ∙ views_tested k all shares (own_views entry.own) inside ∙ brought)))
       (λ done. absurd (none_of entry.views stands.1 done)) more) viewed
   by_status build entry statuses.Dereferenced fine stands sound viewed = absurd stands
   by_status build entry status fine stands sound viewed = absurd (false_true (sym sound))
@@ -307,7 +327,8 @@ module _ (s : Session) (h : History) (stands : ℕ → Bool) (book : Book) (shar
           ⊎_elim
           (λ (front : list_any on (fixed_views pair.1.recipe ++ own_views pair.1.own) ≡ true).
           ⊎_elim (λ fixed. inl fixed) (λ brought. inr (inl brought))
-          (or_cases (list_any on (fixed_views pair.1.recipe)) (list_any on (own_views pair.1.own)) (sym (list_any-append on (fixed_views pair.1.recipe) (own_views pair.1.own)) ∙ front)))
+          (or_cases (list_any on (fixed_views pair.1.recipe)) (list_any on (own_views pair.1.own)) (sym (list_any-append on (fixed_views pair.1.recipe)
+          (own_views pair.1.own)) ∙ front)))
           (λ (done : list_any on pair.1.views ≡ true). inr (inr done))
           (or_cases (list_any on (fixed_views pair.1.recipe ++ own_views pair.1.own)) (list_any on pair.1.views)
           (sym (list_any-append on (fixed_views pair.1.recipe ++ own_views pair.1.own) pair.1.views) ∙ e))
@@ -316,7 +337,8 @@ module _ (s : Session) (h : History) (stands : ℕ → Bool) (book : Book) (shar
       go true at = absurd (none_of (held_views pair.1) (one.emptied at) e)
       go false at = by_status pair.0 pair.1 pair.1.status one.fine one.fine.stands at parted
 
-  some_has : (xs : List (Build × Entry)) → AllByRecursion (IsResting s h stands whole all shares own) xs → list_any on (pair_views xs) ≡ true → list_any (has_slot shares k) xs ≡ true
+  some_has : (xs : List (Build × Entry)) → AllByRecursion (IsResting s h stands whole all shares own) xs → list_any on (pair_views xs) ≡ true
+      → list_any (has_slot shares k) xs ≡ true
   some_has [] ones e = absurd (false_true e)
   some_has (pair ∷ xs) ones e =
       ⊎_elim (λ (here : list_any on (held_views pair.1) ≡ true). or_first (has_slot shares k pair) (list_any (has_slot shares k) xs) (one_has pair ones.0 here))
@@ -334,7 +356,8 @@ module _ (s : Session) (h : History) (stands : ℕ → Bool) (book : Book) (shar
   some_holds : (xs : List (Build × Entry)) → list_any (has_slot shares k) xs ≡ true → holds_slot shares k ≡ true
   some_holds [] e = absurd (false_true e)
   some_holds (pair ∷ xs) e =
-      ⊎_elim (λ (here : has_slot shares k pair ≡ true). has_holds pair.1.status pair.1 here) (λ (more : list_any (has_slot shares k) xs ≡ true). some_holds xs more)
+      ⊎_elim (λ (here : has_slot shares k pair ≡ true). has_holds pair.1.status pair.1 here) (λ (more : list_any
+      (has_slot shares k) xs ≡ true). some_holds xs more)
       (or_cases (has_slot shares k pair) (list_any (has_slot shares k) xs) e)
 
   held_as : holds_slot shares k ≡ list_any (has_slot shares k) both_pairs
@@ -346,7 +369,8 @@ module _ (s : Session) (h : History) (stands : ℕ → Bool) (book : Book) (shar
       viewed slot.0 slot.1 some (views_on slot.0 (pair_views both_pairs)) refl)
       (λ e. some_holds both_pairs e)
     where
-      viewed : (slot : ℕ) → option_map_or (is_range_of k) (item_at shares slot) false ≡ true → 0 < count_at shares slot → (n : ℕ) → views_on slot (pair_views both_pairs) ≡ n
+      viewed : (slot : ℕ) → option_map_or (is_range_of k) (item_at shares slot) false ≡ true → 0 < count_at shares slot → (n : ℕ)
+          → views_on slot (pair_views both_pairs) ≡ n
           → list_any (has_slot shares k) both_pairs ≡ true
       viewed slot at some zero none =
           let sums = counted.counts slot in
@@ -365,7 +389,8 @@ module _ (s : Session) (h : History) (stands : ℕ → Bool) (book : Book) (shar
       (λ pair one. record { fine = one.fine; found = ap (λ (o : Option Build). option_map_or (λ (build : Build). build.cells) o []) one.there })
       (resting s h stands book shares rows quota files order contents exact rest counted)
 
-  same_test : (pair : Build × Entry) → IsTold s h stands pair → (not (is_broken_now h pair.0.name) && list_any (is_of_slot k) pair.0.cells) ≡ reaches (is_of_slot k) pair
+  same_test : (pair : Build × Entry) → IsTold s h stands pair → (not (is_broken_now h pair.0.name) && list_any (is_of_slot k) pair.0.cells) ≡ reaches
+      (is_of_slot k) pair
   same_test pair told =
       ap (λ (b : Bool). not b && list_any (is_of_slot k) pair.0.cells)
       (sym (broken_now s h pair.0) ∙ ap is_broken (sym (status_of s h stands book shares rows quota files order contents exact rest counted pair told)))
@@ -380,7 +405,8 @@ module _ (s : Session) (h : History) (stands : ℕ → Bool) (book : Book) (shar
       (live_pairs s h stands book shares rows quota files order contents exact rest counted)
       ∙ map_firsts (λ (build : Build). not (is_broken_now h build.name) && list_any (is_of_slot k) build.cells) both_pairs
       ∙ any_each (λ (pair : Build × Entry). not (is_broken_now h pair.0.name) && list_any (is_of_slot k) pair.0.cells) (reaches (is_of_slot k)) both_pairs
-      (for_each (IsTold s h stands) (λ (pair : Build × Entry). (not (is_broken_now h pair.0.name) && list_any (is_of_slot k) pair.0.cells) ≡ reaches (is_of_slot k) pair) both_pairs
+      (for_each (IsTold s h stands) (λ (pair : Build × Entry). (not (is_broken_now h pair.0.name) && list_any (is_of_slot k) pair.0.cells) ≡ reaches
+      (is_of_slot k) pair) both_pairs
       (λ pair told. same_test pair told) (told_pairs s h stands whole book.entries contents.outlines_stand))
       ∙ reached_passes whole all shares own (is_of_slot k) (is_range_at shares k) (is_range_step shares k) (slot_read k all shares) both_pairs
       (closed s h stands book shares rows quota files order contents exact rest counted) ready)

@@ -34,7 +34,8 @@ EntriesAgree =
     → Beside (IsRootedAs s.limits.page h) (builds s.limits.page h) book.entries → AgreesWith s.limits.page h book
 
 -- what the parts keep among themselves, with what is charged to memory
-pub record IsKept (s : Session) (h : History) (book : Book) (shares : List (Option Share)) (rows : List (Option Row)) (quota : Queue) (files : Files) : Type 0 where
+pub record IsKept (s : Session) (h : History) (book : Book) (shares : List (Option Share)) (rows : List (Option Row)) (quota : Queue)
+    (files : Files) : Type 0 where
   pub counted : IsCounted book shares rows
   pub apart : AreGatheredApart s h shares rows
   pub paged : ArePaged s h shares rows files

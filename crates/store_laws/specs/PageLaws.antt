@@ -3,7 +3,7 @@ use Rattle.std.specs.Prelude.{ℕ, ◌≡◌, ◌+◌, ◌==◌, Bool, true, fal
 use Rattle.std.specs.List.{AllByRecursion, list_any}
 use Rattle.blob_entries.specs.Book.{Book}
 use Rattle.item_shares.specs.declared.item.Item.{Item}
-use Rattle.item_shares.specs.declared.item.Item.TheVariants.{Memory, Paged, Reserved, File, Range}
+use Rattle.item_shares.specs.declared.item.Item.TheVariants.{Paged}
 use Rattle.item_shares.specs.declared.shares.Share.{Share}
 use Rattle.item_shares.specs.Shares.{item_at}
 use Rattle.page_files.specs.declared.held.Held.{Held}
@@ -39,7 +39,8 @@ pub record ArePaged (s : Session) (h : History) (shares : List (Option Share)) (
   pub in_turn : pages h ≡ numbered_pages 0 (writes h)
   pub unasked : (slot : ℕ) → IfSome (item_at shares slot) (IsUnasked (asked h))
   pub lengths : AllByRecursion (λ (held : Held). held.len ≡ length_in (pieces s.limits.page h) held.piece.0) (left_of files.job)
-  pub unnamed : AllByRecursion (λ (piece : Piece). is_gathered (builds s.limits.page h) rows piece.blob ≡ true → is_in_job h piece.number ≡ false) (pieces s.limits.page h)
+  pub unnamed : AllByRecursion (λ (piece : Piece). is_gathered (builds s.limits.page h) rows piece.blob ≡ true
+      → is_in_job h piece.number ≡ false) (pieces s.limits.page h)
 
 pub record DiskIsTold (page : ℕ) (h : History) (files : Files) : Type 0 where
   pub charged : charge files ≡ disk page h

@@ -1,6 +1,7 @@
 ghost use Rattle.store_laws.specs.AgreeLaws.{EntriesAgree, ReachesFollows};
 ghost use Rattle.store_laws.specs.PageLaws.{DiskIsCharged};
-ghost use Rattle.store_laws.specs.ReachLaws.{ChargesAreTold, HeldIsReached, SettledRests, SlotsAreReached};
+ghost use Rattle.store_laws.specs.ReachLaws.{ChargesAreTold, HeldIsReached};
+ghost use Rattle.store_laws.specs.ReachLaws.{SettledRests, SlotsAreReached};
 ghost use Rattle.store_laws.specs.CellLaws.{DenotedLaws};
 ghost use Rattle.store_laws.specs.GroupLaws.{GroupLegal, LateListsKeepLives, OwnLives};
 
@@ -21,7 +22,7 @@ pub fn own_lives()
 {}
 
 /// The cells of views that are joined are those of the one and then of the other; views with a
-/// part of others' cells stand for that part; and what changes no slot's cells changes none of theirs.
+/// part of others' cells stand for that part; and where slots say the same, views do.
 pub fn views_denote_cells()
     ensures { DenotedLaws }
 {}
@@ -54,8 +55,8 @@ pub fn disk_is_charged()
     ensures { DiskIsCharged }
 {}
 
-/// While whatever lives stands, and whatever is unfinished, entries that are held as their blobs are
-/// agree with the history, as the laws of the registry ask.
+/// While whatever lives stands, and whatever is unfinished, entries that are held as their blobs
+/// are agree with the history, as the laws of the registry ask.
 pub fn entries_agree()
     ensures { EntriesAgree }
 {}
