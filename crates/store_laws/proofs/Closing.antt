@@ -240,7 +240,8 @@ module _ (s : Session) (h : History) (stands : ℕ → Bool) (book : Book) (shar
     way = list_any (λ (slot : ℕ). is_number piece.number (piece_at shares slot)) (pinned rows)
 
     comes : AllByRecursion (Comes s h stands whole all shares own rest.ends piece mine yours whole rows) pairs
-    comes = all_come s h stands whole all shares own rest.ends piece mine yours whole book.entries rows distinct contents.outlines_stand contents.entries.each contents.rows_stand contents.entries.written
+    comes = all_come s h stands whole all shares own rest.ends piece mine yours whole book.entries rows distinct
+        contents.outlines_stand contents.entries.each contents.rows_stand contents.entries.written
 
     -- an entry that has a granted piece holds it
     one_held : (pair : Build × Entry) → IsResting s h stands whole all shares own pair
@@ -338,7 +339,8 @@ module _ (s : Session) (h : History) (stands : ℕ → Bool) (book : Book) (shar
         both (is_granted_piece h whole piece) (list_any (has_piece shares piece.number) pairs) (held_granted held)
         (⊎_elim (λ (viewed : list_any (is_on shares piece.number) (pair_views pairs) ≡ true). some_has pairs resting viewed)
         (λ (on : way ≡ true).
-        way_had s h stands whole all shares own rest.ends piece mine yours whole book.entries rows contents.outlines_stand contents.entries.each contents.rows_stand contents.entries.written on)
+        way_had s h stands whole all shares own rest.ends piece mine yours whole book.entries rows
+        contents.outlines_stand contents.entries.each contents.rows_stand contents.entries.written on)
         (or_cases (list_any (is_on shares piece.number) (pair_views pairs)) way
         (sym (held-counted shares (pair_views pairs) (pinned rows) piece.number counts counted.viewed) ∙ held))))
         (λ (gather : gathered_now ≡ true).

@@ -176,7 +176,8 @@ module _ (s : Session) (h : History) (build : Build) where
       go : (a b : Bool) → is_granted h build ≡ a → has_all s.limits h build ≡ b → gathers (cond a (cond b settled (gathering
           (gathered_of s h build))) waiting) ≡ true → IsGathering
       go true false g l f =
-          let sent : IsSent s h build = record { begun = begun; roomy = roomy g; lacks = l } in record { sent = sent; granted = g; status = status_of_sent s h build sent }
+          let sent : IsSent s h build = record { begun = begun; roomy = roomy g; lacks = l } in
+          record { sent = sent; granted = g; status = status_of_sent s h build sent }
       go true true g l f = absurd (false_true f)
       go false b g l f = absurd (false_true f)
   gathering_by (Some (plans.File n)) at begun e = absurd (go (has_all s.limits h build) e)

@@ -51,7 +51,15 @@ live_shrinks page h g shrinks name e =
     live_sub page h g (reverse (builds page h)) [] [] shrinks.roots shrinks.begun (λ test f. f) (λ (build : Build). build.name == name) moved
 
 refused_shrinks : (page : ℕ) (h : History) (event : Event) (why : Refusal) → Shrinks page h (refused h event why)
-refused_shrinks page h event why = record { blobs = refl; roots = λ name e. e; begun = λ name e. e; broken = λ name e. e; granted = λ name e. e; unlisted = λ number e. e }
+refused_shrinks page h event why =
+    record {
+      blobs = refl;
+      roots = λ name e. e;
+      begun = λ name e. e;
+      broken = λ name e. e;
+      granted = λ name e. e;
+      unlisted = λ number e. e;
+    }
 
 said_lives : (page : ℕ) (h : History) (list : List Answer) → AllPlain list → (name : ℕ) → is_live page (said_all h list) name ≡ true
     → is_live page h name ≡ true
