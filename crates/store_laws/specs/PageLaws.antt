@@ -30,8 +30,8 @@ numbered_pages number (Some list ∷ more) = record { number = number; pieces = 
 
 -- the removal of the page file that an item is in was not asked for
 abbrev pub IsUnasked : List ℕ → Item → Type 0
-IsUnasked gone (Paged piece page off len) = list_any (λ (each : ℕ). each == page.0) gone ≡ false
-IsUnasked gone item = Unit {0}
+IsUnasked removed (Paged piece page off len) = list_any (λ (each : ℕ). each == page.0) removed ≡ false
+IsUnasked removed item = Unit {0}
 
 -- page numbers are taken one after the other, no item is in a page file that was asked for, the job's pieces have their lengths, and no job names a
 -- piece that is gathered
