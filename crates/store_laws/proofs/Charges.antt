@@ -1,8 +1,8 @@
 -- What memory is charged with is the bytes of the reached pieces in memory.
-use Rattle.std.proofs.Common.{◌≡◌, ℕ, suc, ◌+◌, ◌==◌, Bool, true, false, ◌&&◌, ◌||◌, List, [], ◌∷◌, ◌++◌, map, length, refl, ap, subst, sym, ◌∙◌, arith, Option, Some, None, cond, zero-add}
+use Rattle.std.proofs.Common.{◌≡◌, ℕ, suc, ◌+◌, ◌==◌, Bool, true, false, List, [], ◌∷◌, length, refl, ap, subst, sym, ◌∙◌, Option, Some, None, cond, zero-add}
 use Rattle.std.specs.Prelude.{filter, sum, sum_by, IfSome, IsSomeAnd}
 use Rattle.std.specs.Option.{option_map, option_map_or}
-use Rattle.std.specs.List.{AllByRecursion, list_any}
+use Rattle.std.specs.List.{AllByRecursion}
 use Rattle.std.proofs.lemmas.Bool.{eqb-true, eq-eqb}
 use Rattle.std.proofs.lemmas.List.Sums.{sum_by-cons, sum_by-append}
 use Rattle.std.proofs.lemmas.List.Elements.{filter-append}
@@ -16,24 +16,23 @@ use Rattle.item_shares.specs.Shares.{item_at}
 use Rattle.item_shares.specs.Weights.{held_weight, weights}
 use Rattle.blob_model.specs.Session.{Session}
 use Rattle.blob_model.specs.History.{History}
-use Rattle.blob_model.specs.Builds.{Build, builds}
+use Rattle.blob_model.specs.Builds.{Build}
 use Rattle.blob_model.specs.Order.{Distinct, named}
-use Rattle.blob_model.specs.Pages.{Place, in_memory, in_page, is_memory, is_reserved, place_in, reserved}
+use Rattle.blob_model.specs.Pages.{Place, in_memory, in_page, is_memory, is_reserved, reserved}
 use Rattle.blob_model.specs.Parts.{own_bytes}
 use Rattle.blob_model.specs.Pieces.{Piece, numbered, pieces, pieces_from, spans_of}
-use Rattle.blob_model.specs.Tally.{bytes_of, memory_of}
 use Rattle.blob_model.proofs.Lists.{false_true, for_each}
 use Rattle.blob_model.proofs.builds.PieceNumbers.{pieces_numbered}
 use Rattle.blob_model.proofs.live.Closed.{cover_pieces}
 use Rattle.blob_model.proofs.memory.Builds.{numbered_named, pieces_named}
 use Rattle.store_laws.specs.Cells.{piece_in}
-use Rattle.store_laws.specs.Items.{AreOnePerPiece, Facts, IsPlaced, held, holds_piece, piece_of_share}
-use Rattle.store_laws.specs.Rows.{Coming, Row, bare, coming_of, gathered, gathered_bytes, gathered_of, gathering, gathers, is_gathered, row_of, settled, waiting, without_slots, writing}
+use Rattle.store_laws.specs.Items.{AreOnePerPiece, Facts, IsPlaced, held, piece_of_share}
+use Rattle.store_laws.specs.Rows.{Coming, Row, bare, coming_of, gathered, gathered_bytes, gathered_of}
+use Rattle.store_laws.specs.Rows.{gathering, gathers, is_gathered, row_of, settled, waiting, without_slots, writing}
 use Rattle.store_laws.specs.Weights.{memory_bytes, memory_weight, reserved_bytes, reserved_weight}
-use Rattle.store_laws.proofs.Coming.{AreRowed, row_at, same_gathers}
+use Rattle.store_laws.proofs.Coming.{AreRowed, row_at}
 use Rattle.store_laws.proofs.ComingNow.{gathering_is}
 use Rattle.store_laws.proofs.HeldWeights.{IsWeighed, weights_held}
-use Rattle.store_laws.proofs.Sums.{sum-each, sum-either, sum-passing}
 
 -- ---- items
 
@@ -61,12 +60,15 @@ module _ (all : List Piece) (facts : Facts) where
   memory_weighed None placed = refl
   memory_weighed (Some share) placed = go share.item placed
     where
-      go : (item : Item) → IsPlaced all facts item → IsWeighed all (λ (one : Option Share). memory_weight item) (memory_bytes facts) (Some (record share { item = item })) (piece_of_share (Some (record share { item = item })))
+      go : (item : Item) → IsPlaced all facts item → IsWeighed all (λ (one : Option Share). memory_weight item) (memory_bytes facts) (Some
+          (record share { item = item })) (piece_of_share (Some (record share { item = item })))
       go (Memory piece bytes) is =
-          by_place (piece_in all piece.0) (λ (one : Piece). (facts.granted one ≡ true) × (facts.place one ≡ in_memory) × (bytes ≡ facts.bytes one) × (length bytes ≡ one.len)) in_memory (length bytes)
+          by_place (piece_in all piece.0) (λ (one : Piece). (facts.granted one ≡ true) × (facts.place one ≡ in_memory) × (bytes ≡ facts.bytes one) ×
+          (length bytes ≡ one.len)) in_memory (length bytes)
           (λ (at : Place) (one : Piece). cond (is_memory at) one.len 0) (λ one f. (f.1, f.3)) is
       go (Paged piece page off len) is =
-          by_place (piece_in all piece.0) (λ (one : Piece). (facts.granted one ≡ true) × (facts.place one ≡ in_page page.0) × (off ≡ facts.offset one) × (len ≡ one.len)) (in_page page.0) 0
+          by_place (piece_in all piece.0) (λ (one : Piece). (facts.granted one ≡ true) × (facts.place one ≡ in_page page.0) × (off ≡ facts.offset one) ×
+          (len ≡ one.len)) (in_page page.0) 0
           (λ (at : Place) (one : Piece). cond (is_memory at) one.len 0) (λ one f. (f.1, refl)) is
       go (Reserved piece len) is =
           by_place (piece_in all piece.0) (λ (one : Piece). (facts.granted one ≡ true) × (facts.place one ≡ reserved) × (len ≡ one.len)) reserved 0
@@ -79,12 +81,15 @@ module _ (all : List Piece) (facts : Facts) where
   reserved_weighed None placed = refl
   reserved_weighed (Some share) placed = go share.item placed
     where
-      go : (item : Item) → IsPlaced all facts item → IsWeighed all (λ (one : Option Share). reserved_weight item) (reserved_bytes facts) (Some (record share { item = item })) (piece_of_share (Some (record share { item = item })))
+      go : (item : Item) → IsPlaced all facts item → IsWeighed all (λ (one : Option Share). reserved_weight item) (reserved_bytes facts) (Some
+          (record share { item = item })) (piece_of_share (Some (record share { item = item })))
       go (Memory piece bytes) is =
-          by_place (piece_in all piece.0) (λ (one : Piece). (facts.granted one ≡ true) × (facts.place one ≡ in_memory) × (bytes ≡ facts.bytes one) × (length bytes ≡ one.len)) in_memory 0
+          by_place (piece_in all piece.0) (λ (one : Piece). (facts.granted one ≡ true) × (facts.place one ≡ in_memory) × (bytes ≡ facts.bytes one) ×
+          (length bytes ≡ one.len)) in_memory 0
           (λ (at : Place) (one : Piece). cond (is_reserved at) one.len 0) (λ one f. (f.1, refl)) is
       go (Paged piece page off len) is =
-          by_place (piece_in all piece.0) (λ (one : Piece). (facts.granted one ≡ true) × (facts.place one ≡ in_page page.0) × (off ≡ facts.offset one) × (len ≡ one.len)) (in_page page.0) 0
+          by_place (piece_in all piece.0) (λ (one : Piece). (facts.granted one ≡ true) × (facts.place one ≡ in_page page.0) × (off ≡ facts.offset one) ×
+          (len ≡ one.len)) (in_page page.0) 0
           (λ (at : Place) (one : Piece). cond (is_reserved at) one.len 0) (λ one f. (f.1, refl)) is
       go (Reserved piece len) is =
           by_place (piece_in all piece.0) (λ (one : Piece). (facts.granted one ≡ true) × (facts.place one ≡ reserved) × (len ≡ one.len)) reserved len
@@ -92,7 +97,8 @@ module _ (all : List Piece) (facts : Facts) where
       go (File name stamp off len) is = refl
       go (Range slot off len) is = refl
 
-  each_share : (P Q : Option Share → Type 0) (shares : List (Option Share)) → ((share : Option Share) → P share → Q share) → AllByRecursion P shares → AllByRecursion Q shares
+  each_share : (P Q : Option Share → Type 0) (shares : List (Option Share)) → ((share : Option Share) → P share → Q share) → AllByRecursion P shares
+      → AllByRecursion Q shares
   each_share P Q [] f all = tt
   each_share P Q (share ∷ shares) f all = (f share all.0, each_share P Q shares f all.1)
 
@@ -114,15 +120,17 @@ reserved_held page n list facts shares apart each =
     let all = pieces_from page 0 list in
     weights_held all (held_weight reserved_weight) (reserved_bytes facts) shares (pieces_numbered page 0 list) apart
     (each_share all facts (λ (slot : Option Share). IfSome (option_map (λ (share : Share). share.item) slot) (IsPlaced all facts))
-    (λ (share : Option Share). IsWeighed all (held_weight reserved_weight) (reserved_bytes facts) share (piece_of_share share)) shares (reserved_weighed all facts)
+    (λ (share : Option Share). IsWeighed all (held_weight reserved_weight) (reserved_bytes facts) share (piece_of_share share)) shares
+    (reserved_weighed all facts)
     (all_slots (IsPlaced all facts) shares each))
 
 -- ---- what is gathered
 
-sum_numbered : (blob number : ℕ) (spans : List (ℕ × ℕ)) → sum_by (λ (piece : Piece). piece.len) (numbered blob number spans) ≡ sum_by (λ (span : ℕ × ℕ). span.1) spans
+sum_numbered : (blob number : ℕ) (spans : List (ℕ × ℕ)) → sum_by (λ (piece : Piece). piece.len) (numbered blob number spans) ≡ sum_by (λ
+    (span : ℕ × ℕ). span.1) spans
 sum_numbered blob number [] = refl
 sum_numbered blob number (span ∷ spans) =
-    let piece : Piece = record { number = number; blob = blob; from = span.0; len = span.1; } in
+    let piece : Piece = record { number = number; blob = blob; from = span.0; len = span.1 } in
     sum_by-cons (λ (each : Piece). each.len) piece (numbered blob (number + 1) spans)
     ∙ ap (λ (n : ℕ). span.1 + n) (sum_numbered blob (number + 1) spans)
     ∙ sym (sum_by-cons (λ (each : ℕ × ℕ). each.1) span spans)
@@ -130,12 +138,14 @@ sum_numbered blob number (span ∷ spans) =
 filter_constant : (test : Piece → Bool) (b : Bool) (xs : List Piece) → AllByRecursion (λ (x : Piece). test x ≡ b) xs → filter test xs ≡ cond b xs []
 filter_constant test true [] each = refl
 filter_constant test false [] each = refl
-filter_constant test true (x ∷ xs) each = ap (λ (c : Bool). cond c (x ∷ filter test xs) (filter test xs)) each.0 ∙ ap (λ (ys : List Piece). x ∷ ys) (filter_constant test true xs each.1)
+filter_constant test true (x ∷ xs) each = ap (λ (c : Bool). cond c (x ∷ filter test xs) (filter test xs)) each.0
+    ∙ ap (λ (ys : List Piece). x ∷ ys) (filter_constant test true xs each.1)
 filter_constant test false (x ∷ xs) each = ap (λ (c : Bool). cond c (x ∷ filter test xs) (filter test xs)) each.0 ∙ filter_constant test false xs each.1
 
 filter_alike : (p q : Piece → Bool) (xs : List Piece) → AllByRecursion (λ (x : Piece). p x ≡ q x) xs → filter p xs ≡ filter q xs
 filter_alike p q [] each = refl
-filter_alike p q (x ∷ xs) each = ap (λ (b : Bool). cond b (x ∷ filter p xs) (filter p xs)) each.0 ∙ ap (λ (zs : List Piece). cond (q x) (x ∷ zs) zs) (filter_alike p q xs each.1)
+filter_alike p q (x ∷ xs) each = ap (λ (b : Bool). cond b (x ∷ filter p xs) (filter p xs)) each.0
+    ∙ ap (λ (zs : List Piece). cond (q x) (x ∷ zs) zs) (filter_alike p q xs each.1)
 
 module _ (s : Session) (h : History) (stands : ℕ → Bool) where
   abbrev size : Piece → ℕ
@@ -201,11 +211,13 @@ module _ (s : Session) (h : History) (stands : ℕ → Bool) where
       (ap (λ (b : Bool). cond b (row_gathers held) (is_gathered list rows build.name)) (eq-eqb build.name build.name refl))) in
       let back : filter test others ≡ filter (λ (piece : Piece). is_gathered list rows piece.blob) others =
       filter_alike test (λ (piece : Piece). is_gathered list rows piece.blob) others
-      (for_each (λ (piece : Piece). named piece.blob list ≡ true) (λ (piece : Piece). test piece ≡ is_gathered list rows piece.blob) others (λ piece there. other piece.blob there)
+      (for_each (λ (piece : Piece). named piece.blob list ≡ true) (λ (piece : Piece). test piece ≡ is_gathered list rows piece.blob) others
+      (λ piece there. other piece.blob there)
       (pieces_named s.limits.page (number + length (spans_of s.limits.page build)) list)) in
       sum_by-cons row_bytes held rows
       ∙ ap (λ (n : ℕ). n + gathered rows) (first_gathered build held number first_is)
-      ∙ ap (λ (n : ℕ). sum_by size (cond (row_gathers held) mine []) + n) (gathered_held (number + length (spans_of s.limits.page build)) list rows distinct.1 rest_are)
+      ∙ ap (λ (n : ℕ). sum_by size (cond (row_gathers held) mine []) + n) (gathered_held (number + length
+      (spans_of s.limits.page build)) list rows distinct.1 rest_are)
       ∙ sym
       (ap (sum_by size) (filter-append test mine others)
       ∙ sum_by-append size (filter test mine) (filter test others)

@@ -1,54 +1,51 @@
 -- What is held is what is reached.
-use Rattle.std.proofs.Common.{◌≡◌, ℕ, zero, ◌+◌, ◌==◌, ◌<◌, ◌⊎◌, Bool, true, false, ◌&&◌, ◌||◌, not, List, [], ◌∷◌, ◌++◌, map, refl, ap, subst, sym, ◌∙◌, arith, Option, Some, None, ⊎_elim, cond, length, zero-add}
+use Rattle.std.proofs.Common.{◌≡◌, ℕ, ◌+◌, ◌==◌, ◌⊎◌, Bool, true, false, ◌&&◌, ◌||◌, not, List, []}
+use Rattle.std.proofs.Common.{◌∷◌, map, refl, ap, subst, sym, ◌∙◌, Option, Some, None, ⊎_elim, cond, length, zero-add}
 use Rattle.std.specs.Prelude.{count_by, filter, find, flat_map, IfSome, IsSomeAnd}
-use Rattle.std.specs.Option.{option_map, option_map_or}
+use Rattle.std.specs.Option.{option_map_or}
 use Rattle.std.specs.List.{AllByRecursion, list_any}
 use Rattle.std.proofs.lemmas.Bool.{and_parts, eqb-true, eq-eqb}
 use Rattle.std.proofs.lemmas.List.Folds.{list_any-append}
-use Rattle.blob_words.specs.declared.status.Status.{Status}
-use Rattle.blob_words.specs.declared.status.Status.TheVariants as statuses
 use Rattle.item_shares.specs.declared.item.Item.{Item}
 use Rattle.item_shares.specs.declared.item.Item.TheVariants.{Memory, Paged, Reserved, File, Range}
 use Rattle.item_shares.specs.declared.shares.Share.{Share}
-use Rattle.item_shares.specs.Shares.{AreViewed, item_at}
+use Rattle.item_shares.specs.Shares.{item_at}
 use Rattle.blob_items.specs.declared.view.View.{View}
 use Rattle.blob_entries.specs.declared.entry.Entry.{Entry}
 use Rattle.blob_entries.specs.Counts.{count_at, views_on}
 use Rattle.blob_entries.specs.Holdings.{held_views, views_in}
 use Rattle.blob_entries.specs.Statuses.{is_broken, is_pending}
-use Rattle.blob_entries.specs.declared.step.Step.{Step}
-use Rattle.blob_entries.specs.declared.step.Step.TheVariants.{Own, Fixed, Source}
 use Rattle.blob_entries.proofs.Counting.{on_append}
 use Rattle.blob_entries.proofs.Holdings.{in_cons}
 use Rattle.blob_model.specs.Session.{Session}
 use Rattle.blob_model.specs.History.{History}
-use Rattle.blob_model.specs.Builds.{Build, Cell, builds, build_in, cells_in}
+use Rattle.blob_model.specs.Builds.{Build, builds, build_in}
 use Rattle.blob_model.specs.Live.{is_live, live}
 use Rattle.blob_model.specs.Order.{Distinct}
 use Rattle.blob_model.specs.Pages.{in_memory, in_page, reserved}
-use Rattle.blob_model.specs.Pieces.{Piece, owns, pieces, pieces_of}
+use Rattle.blob_model.specs.Pieces.{Piece, owns, pieces}
 use Rattle.blob_model.specs.Reached.{is_granted_piece, live_cells, owns_some, reached, some_passes}
-use Rattle.blob_model.specs.Standing.{ended, is_broken as is_broken_now, is_granted, is_unfinished}
+use Rattle.blob_model.specs.Standing.{is_granted}
 use Rattle.blob_model.specs.Waits.{is_waiting}
 use Rattle.blob_model.proofs.Lists.{both, false_true, filter_same, for_both, for_each, or_cases, or_first, or_second}
 use Rattle.blob_model.proofs.builds.Order.{ordered_distinct}
-use Rattle.blob_model.proofs.builds.PieceNumbers.{FoundIn, all_by_number, found_number, pieces_numbered}
+use Rattle.blob_model.proofs.builds.PieceNumbers.{FoundIn, all_by_number, pieces_numbered}
 use Rattle.blob_model.proofs.live.Names.{live_named}
 use Rattle.blob_model.proofs.memory.Shrinking.{holds_piece as holds_now, owns_as, some_any}
 use Rattle.quota_queue.specs.Queue.{Queue}
 use Rattle.page_files.specs.Files.{Files}
 use Rattle.blob_entries.specs.Book.{Book}
 use Rattle.registry_laws.specs.Agree.{Beside}
-use Rattle.store_laws.specs.Having.{AreClosed, has, has_by, has_piece, is_on, is_own_step, is_unbroken, paired, reaches}
+use Rattle.store_laws.specs.Having.{AreClosed, has, has_piece, is_on, is_own_step, is_unbroken, paired, reaches}
 use Rattle.store_laws.specs.Items.{Facts, IsPlaced, holds_piece, is_number, piece_at, piece_by, piece_of_item}
-use Rattle.store_laws.specs.Cells.{denoted, piece_in}
+use Rattle.store_laws.specs.Cells.{piece_in}
 use Rattle.store_laws.specs.Outlines.{Outline, status_now}
 use Rattle.store_laws.specs.ReachLaws.{IsAtRest, IsCounted}
-use Rattle.store_laws.specs.Recipes.{EntryStands, IsEntryFor, IsStep, own_cells, own_numbers}
-use Rattle.store_laws.specs.Rows.{CountsViews, Row, is_gathered, pinned}
+use Rattle.store_laws.specs.Recipes.{EntryStands, IsEntryFor}
+use Rattle.store_laws.specs.Rows.{Row, is_gathered, pinned}
 use Rattle.store_laws.specs.Stands.{AreEmptied, AreExact, ContentsStand}
 use Rattle.store_laws.specs.Uses.{facts_of, held_pieces, is_held, own_pieces}
-use Rattle.store_laws.proofs.Coming.{Comes, all_come, gathered_had, on_way, own_any, way_had}
+use Rattle.store_laws.proofs.Coming.{Comes, all_come, gathered_had, own_any, way_had}
 use Rattle.store_laws.proofs.ComingNow.{waiting_by_status, waits_ungranted}
 use Rattle.store_laws.proofs.Having.{IsRead, IsReady, reached_passes}
 use Rattle.store_laws.proofs.HeldCounts.{back_pinned, held-counted, slot_of}
@@ -67,7 +64,8 @@ pub pair_views_on : (P : Build → Option Entry → Type 0) (list : List Build) 
 pair_views_on P [] [] slot beside = refl
 pair_views_on P [] (held ∷ entries) slot beside = absurd beside
 pair_views_on P (build ∷ list) [] slot beside = refl
-pair_views_on P (build ∷ list) (None ∷ entries) slot beside = in_cons None entries slot ∙ zero-add (views_in entries slot) ∙ pair_views_on P list entries slot beside.1
+pair_views_on P (build ∷ list) (None ∷ entries) slot beside = in_cons None entries slot ∙ zero-add (views_in entries slot)
+    ∙ pair_views_on P list entries slot beside.1
 pair_views_on P (build ∷ list) (Some entry ∷ entries) slot beside =
     in_cons (Some entry) entries slot
     ∙ ap (λ (n : ℕ). views_on slot (held_views entry) + n) (pair_views_on P list entries slot beside.1)
@@ -82,15 +80,17 @@ emptied_pairs (build ∷ list) (Some entry ∷ entries) empty = (empty.0, emptie
 
 -- ---- small things
 
-any_each : {X : Type 0} (p q : X → Bool) (xs : List X) → AllByRecursion (λ (x : X). p x ≡ q x) xs → list_any p xs ≡ list_any q xs
+pub any_each : {X : Type 0} (p q : X → Bool) (xs : List X) → AllByRecursion (λ (x : X). p x ≡ q x) xs → list_any p xs ≡ list_any q xs
 any_each p q [] each = refl
 any_each p q (x ∷ xs) each = ap (λ (b : Bool). b || list_any p xs) each.0 ∙ ap (λ (b : Bool). q x || b) (any_each p q xs each.1)
 
 filter_each : (p q : Piece → Bool) (xs : List Piece) → AllByRecursion (λ (x : Piece). p x ≡ q x) xs → filter p xs ≡ filter q xs
 filter_each p q [] each = refl
-filter_each p q (x ∷ xs) each = ap (λ (b : Bool). cond b (x ∷ filter p xs) (filter p xs)) each.0 ∙ ap (λ (zs : List Piece). cond (q x) (x ∷ zs) zs) (filter_each p q xs each.1)
+filter_each p q (x ∷ xs) each = ap (λ (b : Bool). cond b (x ∷ filter p xs) (filter p xs)) each.0
+    ∙ ap (λ (zs : List Piece). cond (q x) (x ∷ zs) zs) (filter_each p q xs each.1)
 
-map_firsts : (f : Build → Bool) (pairs : List (Build × Entry)) → list_any f (map (λ (pair : Build × Entry). pair.0) pairs) ≡ list_any (λ (pair : Build × Entry). f pair.0) pairs
+pub map_firsts : (f : Build → Bool) (pairs : List (Build × Entry)) → list_any f (map (λ (pair : Build × Entry). pair.0) pairs) ≡ list_any (λ
+    (pair : Build × Entry). f pair.0) pairs
 map_firsts f [] = refl
 map_firsts f (pair ∷ pairs) = ap (λ (b : Bool). f pair.0 || b) (map_firsts f pairs)
 
@@ -104,16 +104,21 @@ module _ (piece : Piece) (whole : List Piece) (found : FoundIn whole piece.numbe
       cc
 
   pub own_blob : (name : ℕ) (xs : List Piece) → AllByRecursion (λ (other : Piece). FoundIn whole other.number other) xs
-      → list_any (λ (each : ℕ). each == piece.number) (map (λ (other : Piece). other.number) (filter (λ (other : Piece). other.blob == name) xs)) ≡ true → name ≡ piece.blob
+      → list_any (λ (each : ℕ). each == piece.number) (map (λ (other : Piece). other.number) (filter (λ (other : Piece). other.blob == name) xs)) ≡ true
+      → name ≡ piece.blob
   own_blob name [] each e = absurd (false_true e)
   own_blob name (x ∷ xs) each e = go (x.blob == name) refl e (own_blob name xs each.1)
     where
       go : (b : Bool) → (x.blob == name) ≡ b
-          → list_any (λ (each : ℕ). each == piece.number) (map (λ (other : Piece). other.number) (cond b (x ∷ filter (λ (other : Piece). other.blob == name) xs) (filter (λ (other : Piece). other.blob == name) xs))) ≡ true
-          → (list_any (λ (each : ℕ). each == piece.number) (map (λ (other : Piece). other.number) (filter (λ (other : Piece). other.blob == name) xs)) ≡ true → name ≡ piece.blob) → name ≡ piece.blob
+          → list_any (λ (each : ℕ). each == piece.number) (map (λ (other : Piece). other.number) (cond b (x ∷ filter (λ
+          (other : Piece). other.blob == name) xs) (filter (λ (other : Piece). other.blob == name) xs))) ≡ true
+          → (list_any (λ (each : ℕ). each == piece.number) (map (λ (other : Piece). other.number) (filter (λ
+          (other : Piece). other.blob == name) xs)) ≡ true → name ≡ piece.blob) → name ≡ piece.blob
       go true at f rest =
-          ⊎_elim (λ (here : (x.number == piece.number) ≡ true). sym (eqb-true x.blob name at) ∙ ap (λ (p : Piece). p.blob) (same_piece x each.0 here)) (λ more. rest more)
-          (or_cases (x.number == piece.number) (list_any (λ (each : ℕ). each == piece.number) (map (λ (other : Piece). other.number) (filter (λ (other : Piece). other.blob == name) xs))) f)
+          ⊎_elim (λ (here : (x.number == piece.number) ≡ true). sym (eqb-true x.blob name at)
+          ∙ ap (λ (p : Piece). p.blob) (same_piece x each.0 here)) (λ more. rest more)
+          (or_cases (x.number == piece.number) (list_any (λ (each : ℕ). each == piece.number) (map (λ (other : Piece). other.number) (filter (λ
+          (other : Piece). other.blob == name) xs))) f)
       go false at f rest = rest f
 
   pub own_among : (xs : List Piece) → FoundIn xs piece.number piece
@@ -121,37 +126,47 @@ module _ (piece : Piece) (whole : List Piece) (found : FoundIn whole piece.numbe
   own_among [] there = absurd (cc there)
   own_among (x ∷ xs) there = go (x.number == piece.number) refl there (own_among xs)
     where
-      kept : (b : Bool) → list_any (λ (each : ℕ). each == piece.number) (map (λ (other : Piece). other.number) (filter (λ (other : Piece). other.blob == piece.blob) xs)) ≡ true
+      kept : (b : Bool) → list_any (λ (each : ℕ). each == piece.number) (map (λ (other : Piece). other.number) (filter (λ
+          (other : Piece). other.blob == piece.blob) xs)) ≡ true
           → list_any (λ (each : ℕ). each == piece.number)
-          (map (λ (other : Piece). other.number) (cond b (x ∷ filter (λ (other : Piece). other.blob == piece.blob) xs) (filter (λ (other : Piece). other.blob == piece.blob) xs))) ≡ true
-      kept true e = or_second (x.number == piece.number) (list_any (λ (each : ℕ). each == piece.number) (map (λ (other : Piece). other.number) (filter (λ (other : Piece). other.blob == piece.blob) xs))) e
+          (map (λ (other : Piece). other.number) (cond b (x ∷ filter (λ (other : Piece). other.blob == piece.blob) xs) (filter (λ
+          (other : Piece). other.blob == piece.blob) xs))) ≡ true
+      kept true e = or_second (x.number == piece.number) (list_any (λ (each : ℕ). each == piece.number) (map (λ (other : Piece). other.number) (filter (λ
+          (other : Piece). other.blob == piece.blob) xs))) e
       kept false e = e
 
       go : (b : Bool) → (x.number == piece.number) ≡ b → cond b (Some x) (find (λ (other : Piece). other.number == piece.number) xs) ≡ Some piece
-          → (FoundIn xs piece.number piece → list_any (λ (each : ℕ). each == piece.number) (map (λ (other : Piece). other.number) (filter (λ (other : Piece). other.blob == piece.blob) xs)) ≡ true)
+          → (FoundIn xs piece.number piece → list_any (λ (each : ℕ). each == piece.number) (map (λ (other : Piece). other.number) (filter (λ
+          (other : Piece). other.blob == piece.blob) xs)) ≡ true)
           → list_any (λ (each : ℕ). each == piece.number)
-          (map (λ (other : Piece). other.number) (cond (x.blob == piece.blob) (x ∷ filter (λ (other : Piece). other.blob == piece.blob) xs) (filter (λ (other : Piece). other.blob == piece.blob) xs))) ≡ true
+          (map (λ (other : Piece). other.number) (cond (x.blob == piece.blob) (x ∷ filter (λ (other : Piece). other.blob == piece.blob) xs) (filter (λ
+          (other : Piece). other.blob == piece.blob) xs))) ≡ true
       go true at f rest =
           let same : x ≡ piece = cc in
           ap
           (λ (b : Bool).
           list_any (λ (each : ℕ). each == piece.number)
-          (map (λ (other : Piece). other.number) (cond b (x ∷ filter (λ (other : Piece). other.blob == piece.blob) xs) (filter (λ (other : Piece). other.blob == piece.blob) xs))))
+          (map (λ (other : Piece). other.number) (cond b (x ∷ filter (λ (other : Piece). other.blob == piece.blob) xs) (filter (λ
+          (other : Piece). other.blob == piece.blob) xs))))
           (eq-eqb x.blob piece.blob (ap (λ (p : Piece). p.blob) same))
-          ∙ or_first (x.number == piece.number) (list_any (λ (each : ℕ). each == piece.number) (map (λ (other : Piece). other.number) (filter (λ (other : Piece). other.blob == piece.blob) xs))) at
+          ∙ or_first (x.number == piece.number) (list_any (λ (each : ℕ). each == piece.number) (map (λ (other : Piece). other.number) (filter (λ
+          (other : Piece). other.blob == piece.blob) xs))) at
       go false at f rest = kept (x.blob == piece.blob) (rest f)
 
 -- ---- the law
 
 -- what is said of each entry beside its blob
-pub record IsResting (s : Session) (h : History) (stands : ℕ → Bool) (whole : List Build) (all : List Piece) (shares : List (Option Share)) (own : ℕ → List ℕ) (pair : Build × Entry) : Type 0 where
+pub record IsResting (s : Session) (h : History) (stands : ℕ → Bool) (whole : List Build) (all : List Piece) (shares : List (Option Share)) (own : ℕ
+    → List ℕ) (pair : Build × Entry) : Type 0 where
   pub fine : IsEntryFor whole all shares own pair.0 pair.1
   pub told : IsTold s h stands pair
   pub emptied : is_broken pair.1.status ≡ true → held_views pair.1 ≡ []
   pub there : build_in whole pair.0.name ≡ Some pair.0
 
-module _ (s : Session) (h : History) (stands : ℕ → Bool) (book : Book) (shares : List (Option Share)) (rows : List (Option Row)) (quota : Queue) (files : Files) (order : List (ℕ × ℕ))
-  (contents : ContentsStand s h stands book shares rows quota files order) (exact : AreExact s h stands) (rest : IsAtRest s.limits.page h) (counted : IsCounted book shares rows) where
+module _ (s : Session) (h : History) (stands : ℕ → Bool) (book : Book) (shares : List (Option Share)) (rows : List (Option Row)) (quota : Queue)
+    (files : Files) (order : List (ℕ × ℕ))
+    (contents : ContentsStand s h stands book shares rows quota files order) (exact : AreExact s h stands) (rest : IsAtRest s.limits.page h)
+    (counted : IsCounted book shares rows) where
   abbrev page : ℕ
   page = s.limits.page
 
@@ -176,22 +191,29 @@ module _ (s : Session) (h : History) (stands : ℕ → Bool) (book : Book) (shar
   pub resting : AllByRecursion (IsResting s h stands whole all shares own) pairs
   resting =
       for_both (λ (pair : Build × Entry). IsEntryFor whole all shares own pair.0 pair.1)
-      (λ (pair : Build × Entry). IsTold s h stands pair × ((is_broken pair.1.status ≡ true → held_views pair.1 ≡ []) × (build_in whole pair.0.name ≡ Some pair.0)))
-      (IsResting s h stands whole all shares own) pairs (λ pair fine more. record { fine = fine; told = more.0; emptied = more.1.0; there = more.1.1; })
+      (λ (pair : Build × Entry). IsTold s h stands pair × ((is_broken pair.1.status ≡ true
+      → held_views pair.1 ≡ []) × (build_in whole pair.0.name ≡ Some pair.0)))
+      (IsResting s h stands whole all shares own) pairs (λ pair fine more. record { fine = fine; told = more.0; emptied = more.1.0; there = more.1.1 })
       (fine_pairs whole all shares own whole book.entries contents.entries.each)
-      (for_both (IsTold s h stands) (λ (pair : Build × Entry). (is_broken pair.1.status ≡ true → held_views pair.1 ≡ []) × (build_in whole pair.0.name ≡ Some pair.0))
-      (λ (pair : Build × Entry). IsTold s h stands pair × ((is_broken pair.1.status ≡ true → held_views pair.1 ≡ []) × (build_in whole pair.0.name ≡ Some pair.0))) pairs (λ pair told more. (told, more))
+      (for_both (IsTold s h stands) (λ (pair : Build × Entry). (is_broken pair.1.status ≡ true
+      → held_views pair.1 ≡ []) × (build_in whole pair.0.name ≡ Some pair.0))
+      (λ (pair : Build × Entry). IsTold s h stands pair × ((is_broken pair.1.status ≡ true
+      → held_views pair.1 ≡ []) × (build_in whole pair.0.name ≡ Some pair.0))) pairs (λ pair told more. (told, more))
       (told_pairs s h stands whole book.entries contents.outlines_stand)
-      (for_both (λ (pair : Build × Entry). is_broken pair.1.status ≡ true → held_views pair.1 ≡ []) (λ (pair : Build × Entry). build_in whole pair.0.name ≡ Some pair.0)
-      (λ (pair : Build × Entry). (is_broken pair.1.status ≡ true → held_views pair.1 ≡ []) × (build_in whole pair.0.name ≡ Some pair.0)) pairs (λ pair empty there. (empty, there))
-      (emptied_pairs whole book.entries counted.emptied) (blob_pairs (λ (build : Build). build_in whole build.name ≡ Some build) whole book.entries (all_blobs_found whole distinct))))
+      (for_both (λ (pair : Build × Entry). is_broken pair.1.status ≡ true → held_views pair.1 ≡ []) (λ
+      (pair : Build × Entry). build_in whole pair.0.name ≡ Some pair.0)
+      (λ (pair : Build × Entry). (is_broken pair.1.status ≡ true → held_views pair.1 ≡ []) × (build_in whole pair.0.name ≡ Some pair.0)) pairs
+      (λ pair empty there. (empty, there))
+      (emptied_pairs whole book.entries counted.emptied) (blob_pairs (λ (build : Build). build_in whole build.name ≡ Some build) whole book.entries
+      (all_blobs_found whole distinct))))
 
   pub closed : AreClosed (λ (name : ℕ). false) pairs
   closed =
-      closed_pairs s h stands exact whole all shares own rest.ends [] whole book.entries (λ (name : ℕ). false) rest.ordered rest.planned rest.sources contents.outlines_stand contents.entries.each
+      closed_pairs s h stands exact whole all shares own rest.ends [] whole book.entries (λ
+      (name : ℕ). false) rest.ordered rest.planned rest.sources contents.outlines_stand contents.entries.each
       (λ name there. absurd (false_true there))
 
-  status_of : (pair : Build × Entry) → IsTold s h stands pair → pair.1.status ≡ status_now s h pair.0
+  pub status_of : (pair : Build × Entry) → IsTold s h stands pair → pair.1.status ≡ status_now s h pair.0
   status_of pair told = ap (λ (o : Outline). o.status) told.outline_is
 
   -- the live blobs are those that have an entry
@@ -218,10 +240,12 @@ module _ (s : Session) (h : History) (stands : ℕ → Bool) (book : Book) (shar
     way = list_any (λ (slot : ℕ). is_number piece.number (piece_at shares slot)) (pinned rows)
 
     comes : AllByRecursion (Comes s h stands whole all shares own rest.ends piece mine yours whole rows) pairs
-    comes = all_come s h stands whole all shares own rest.ends piece mine yours whole book.entries rows distinct contents.outlines_stand contents.entries.each contents.rows_stand contents.entries.written
+    comes = all_come s h stands whole all shares own rest.ends piece mine yours whole book.entries rows distinct
+        contents.outlines_stand contents.entries.each contents.rows_stand contents.entries.written
 
     -- an entry that has a granted piece holds it
-    one_held : (pair : Build × Entry) → IsResting s h stands whole all shares own pair → Comes s h stands whole all shares own rest.ends piece mine yours whole rows pair
+    one_held : (pair : Build × Entry) → IsResting s h stands whole all shares own pair
+        → Comes s h stands whole all shares own rest.ends piece mine yours whole rows pair
         → is_granted_piece h whole piece ≡ true → has_piece shares piece.number pair ≡ true → held_now ≡ true
     one_held pair one come granted e =
         has_held s.limits whole distinct piece found shares own (held_now ≡ true) pair.0 pair.1 one.fine
@@ -235,7 +259,8 @@ module _ (s : Session) (h : History) (stands : ℕ → Bool) (book : Book) (shar
         (false_true
         (sym (ap (λ (o : Option Build). option_map_or (is_granted h) o false) blob_is ∙ waits_ungranted s h pair.0 pair.0.plan refl waiting) ∙ granted)))
         (λ transport steps.
-        ⊎_elim (λ (on : way ≡ true). or_first (holds_piece shares piece.number) gathered_now (back_pinned shares [] (pinned rows) piece.number (pinned rows) on))
+        ⊎_elim (λ (on : way ≡ true). or_first (holds_piece shares piece.number) gathered_now (back_pinned shares [] (pinned rows) piece.number
+        (pinned rows) on))
         (λ (gather : gathered_now ≡ true). or_second (holds_piece shares piece.number) gathered_now gather) (or_cases way gathered_now (come transport steps)))
         e
 
@@ -256,7 +281,8 @@ module _ (s : Session) (h : History) (stands : ℕ → Bool) (book : Book) (shar
         go true at = absurd (false_true (sym (ap (list_any (is_on shares piece.number)) (one.emptied at)) ∙ e))
         go false at = view_has s.limits whole distinct piece found shares own pair.0 pair.1 one.fine at e
 
-    some_has : (xs : List (Build × Entry)) → AllByRecursion (IsResting s h stands whole all shares own) xs → list_any (is_on shares piece.number) (pair_views xs) ≡ true
+    some_has : (xs : List (Build × Entry)) → AllByRecursion (IsResting s h stands whole all shares own) xs
+        → list_any (is_on shares piece.number) (pair_views xs) ≡ true
         → list_any (has_piece shares piece.number) xs ≡ true
     some_has [] ones e = absurd (false_true e)
     some_has (pair ∷ xs) ones e =
@@ -279,12 +305,15 @@ module _ (s : Session) (h : History) (stands : ℕ → Bool) (book : Book) (shar
 
     granted_item : (item : Item) → IsPlaced all (facts_of s h) item → piece_of_item item ≡ Some piece.number → is_granted_piece h whole piece ≡ true
     granted_item (Memory number bytes) placed e =
-        granted_in (piece_in all number.0) (λ (one : Piece). (facts.granted one ≡ true) × (facts.place one ≡ in_memory) × (bytes ≡ facts.bytes one) × (length bytes ≡ one.len)) (λ one is. is.0) (at_number number.0 cc)
+        granted_in (piece_in all number.0) (λ (one : Piece). (facts.granted one ≡ true) × (facts.place one ≡ in_memory) × (bytes ≡ facts.bytes one) ×
+        (length bytes ≡ one.len)) (λ one is. is.0) (at_number number.0 cc)
         placed
     granted_item (Paged number at off len) placed e =
-        granted_in (piece_in all number.0) (λ (one : Piece). (facts.granted one ≡ true) × (facts.place one ≡ in_page at.0) × (off ≡ facts.offset one) × (len ≡ one.len)) (λ one is. is.0) (at_number number.0 cc) placed
+        granted_in (piece_in all number.0) (λ (one : Piece). (facts.granted one ≡ true) × (facts.place one ≡ in_page at.0) × (off ≡ facts.offset one) ×
+        (len ≡ one.len)) (λ one is. is.0) (at_number number.0 cc) placed
     granted_item (Reserved number len) placed e =
-        granted_in (piece_in all number.0) (λ (one : Piece). (facts.granted one ≡ true) × (facts.place one ≡ reserved) × (len ≡ one.len)) (λ one is. is.0) (at_number number.0 cc) placed
+        granted_in (piece_in all number.0) (λ (one : Piece). (facts.granted one ≡ true) × (facts.place one ≡ reserved) × (len ≡ one.len)) (λ one is. is.0)
+        (at_number number.0 cc) placed
     granted_item (File name stamp off len) placed e = absurd (cc e)
     granted_item (Range slot off len) placed e = absurd (cc e)
 
@@ -310,11 +339,13 @@ module _ (s : Session) (h : History) (stands : ℕ → Bool) (book : Book) (shar
         both (is_granted_piece h whole piece) (list_any (has_piece shares piece.number) pairs) (held_granted held)
         (⊎_elim (λ (viewed : list_any (is_on shares piece.number) (pair_views pairs) ≡ true). some_has pairs resting viewed)
         (λ (on : way ≡ true).
-        way_had s h stands whole all shares own rest.ends piece mine yours whole book.entries rows contents.outlines_stand contents.entries.each contents.rows_stand contents.entries.written on)
+        way_had s h stands whole all shares own rest.ends piece mine yours whole book.entries rows
+        contents.outlines_stand contents.entries.each contents.rows_stand contents.entries.written on)
         (or_cases (list_any (is_on shares piece.number) (pair_views pairs)) way
         (sym (held-counted shares (pair_views pairs) (pinned rows) piece.number counts counted.viewed) ∙ held))))
         (λ (gather : gathered_now ≡ true).
-        let had = gathered_had s h stands whole all shares own rest.ends piece mine yours whole book.entries rows (all_blobs_found whole distinct) contents.outlines_stand contents.entries.each
+        let had = gathered_had s h stands whole all shares own rest.ends piece mine yours whole book.entries rows
+        (all_blobs_found whole distinct) contents.outlines_stand contents.entries.each
         contents.rows_stand gather in
         both (is_granted_piece h whole piece) (list_any (has_piece shares piece.number) pairs) had.0 had.1)
         (or_cases (holds_piece shares piece.number) gathered_now e))
@@ -339,7 +370,7 @@ module _ (s : Session) (h : History) (stands : ℕ → Bool) (book : Book) (shar
     ready : AllByRecursion (IsReady whole all shares own) pairs
     ready =
         for_each (IsResting s h stands whole all shares own) (IsReady whole all shares own) pairs
-        (λ pair one. record { fine = one.fine; found = ap (λ (o : Option Build). option_map_or (λ (build : Build). build.cells) o []) one.there; }) resting
+        (λ pair one. record { fine = one.fine; found = ap (λ (o : Option Build). option_map_or (λ (build : Build). build.cells) o []) one.there }) resting
 
     same_test : (pair : Build × Entry) → IsTold s h stands pair → holds_now h piece pair.0 ≡ reaches (owns piece) pair
     same_test pair told =
@@ -361,5 +392,7 @@ module _ (s : Session) (h : History) (stands : ℕ → Bool) (book : Book) (shar
   held_reached =
       sym
       (filter_each (λ (piece : Piece). is_granted_piece h whole piece && owns_some (live_cells page h) piece) (is_held whole shares rows) all
-      (for_each (λ (piece : Piece). FoundIn all piece.number piece) (λ (piece : Piece). (is_granted_piece h whole piece && owns_some (live_cells page h) piece) ≡ is_held whole shares rows piece) all
-      (λ piece found. ap (λ (b : Bool). is_granted_piece h whole piece && b) (owned_has piece found) ∙ closing piece found) (all_by_number 0 all (pieces_numbered page 0 whole))))
+      (for_each (λ (piece : Piece). FoundIn all piece.number piece) (λ (piece : Piece). (is_granted_piece h whole piece && owns_some
+      (live_cells page h) piece) ≡ is_held whole shares rows piece) all
+      (λ piece found. ap (λ (b : Bool). is_granted_piece h whole piece && b) (owned_has piece found)
+      ∙ closing piece found) (all_by_number 0 all (pieces_numbered page 0 whole))))

@@ -1,6 +1,6 @@
 -- A piece that is to come is on its way to a page file or gathered, and one that is on its way or gathered an entry has.
-use Rattle.std.proofs.Common.{◌≡◌, ℕ, ◌==◌, ◌⊎◌, Bool, true, false, ◌&&◌, ◌||◌, List, [], ◌∷◌, ◌++◌, map, refl, ap, subst, sym, ◌∙◌, Option, Some, None, ⊎_elim, cond}
-use Rattle.std.specs.Prelude.{filter, find, flat_map, IfSome}
+use Rattle.std.proofs.Common.{◌≡◌, ℕ, ◌==◌, ◌⊎◌, Bool, true, false, ◌||◌, List, [], ◌∷◌, map, refl, ap, subst, sym, ◌∙◌, Option, Some, None, ⊎_elim, cond}
+use Rattle.std.specs.Prelude.{IfSome}
 use Rattle.std.specs.Option.{option_map, option_map_or}
 use Rattle.std.specs.List.{AllByRecursion, list_any}
 use Rattle.std.proofs.lemmas.Bool.{eqb-true, eq-eqb}
@@ -20,13 +20,13 @@ use Rattle.blob_model.specs.Pieces.{Piece}
 use Rattle.blob_model.specs.Reached.{is_granted_piece}
 use Rattle.blob_model.specs.Standing.{ended, is_granted}
 use Rattle.blob_model.proofs.Lists.{false_true, for_each, or_cases, or_first, or_second}
-use Rattle.blob_model.proofs.builds.PieceNumbers.{FoundIn, found_number}
 use Rattle.registry_laws.specs.Agree.{Beside}
 use Rattle.store_laws.specs.Having.{has_piece, has_by, is_on, is_own_step, paired}
 use Rattle.store_laws.specs.Items.{is_number, piece_at}
 use Rattle.store_laws.specs.Outlines.{Outline, outline, status_now}
-use Rattle.store_laws.specs.Recipes.{EntryStands, IsEntryFor, RowsBeside, own_number, own_numbers}
-use Rattle.store_laws.specs.Rows.{AreWritten, Coming, Row, bare, coming_of, coming_slots, gathering, gathers, is_gathered, pinned, row_of, settled, waiting, without_slots, writing}
+use Rattle.store_laws.specs.Recipes.{EntryStands, IsEntryFor, RowsBeside, own_numbers}
+use Rattle.store_laws.specs.Rows.{AreWritten, Coming, Row, bare, coming_of, coming_slots, gathering}
+use Rattle.store_laws.specs.Rows.{gathers, is_gathered, pinned, row_of, settled, waiting, without_slots, writing}
 use Rattle.store_laws.proofs.ComingNow.{gathering_now, is_writing, sent_by_status, sent_comes, writing_now}
 use Rattle.store_laws.proofs.Paired.{AreOutlined, IsTold, by_first, outline_at, rest_of}
 
@@ -77,14 +77,15 @@ gathered_later build list held rows name fresh e = go (build.name == name) refl
   where
     go : (b : Bool) → (build.name == name) ≡ b → cond b (option_map_or (λ (row : Row). gathers row.coming) held false) (is_gathered list rows name) ≡ true
     go true at =
-        let there : named build.name list ≡ true = subst (λ (n : ℕ). named n list ≡ true) (sym (eqb-true build.name name at)) (gathered_named list rows name e) in
+        let there : named build.name list ≡ true = subst (λ (n : ℕ). named n list ≡ true) (sym (eqb-true build.name name at))
+        (gathered_named list rows name e) in
         absurd (false_true (sym fresh ∙ there))
     go false at = e
 
 module _ (s : Session) (h : History) (stands : ℕ → Bool) (whole : List Build) (all : List Piece) (shares : List (Option Share)) (own : ℕ → List ℕ)
-  (ends : (name : ℕ) → IfSome (ended h name) (λ (status : Status). is_pending status ≡ false)) (piece : Piece)
-  (mine : list_any (λ (each : ℕ). each == piece.number) (own piece.blob) ≡ true)
-  (yours : (name : ℕ) → list_any (λ (each : ℕ). each == piece.number) (own name) ≡ true → name ≡ piece.blob) where
+    (ends : (name : ℕ) → IfSome (ended h name) (λ (status : Status). is_pending status ≡ false)) (piece : Piece)
+    (mine : list_any (λ (each : ℕ). each == piece.number) (own piece.blob) ≡ true)
+    (yours : (name : ℕ) → list_any (λ (each : ℕ). each == piece.number) (own name) ≡ true → name ≡ piece.blob) where
   abbrev passes : ℕ → Bool
   passes slot = is_number piece.number (piece_at shares slot)
 
@@ -95,10 +96,12 @@ module _ (s : Session) (h : History) (stands : ℕ → Bool) (whole : List Build
   Written build row = AreWritten shares (own build.name) row.coming
 
   -- by what stands first: no entry and no row, or both
-  by_both : (goal : Option Entry → Option Row → Type 0) (build : Build) (list : List Build) (held : Option Entry) (entries : List (Option Entry)) (row : Option Row) (rows : List (Option Row))
+  by_both : (goal : Option Entry → Option Row → Type 0) (build : Build) (list : List Build) (held : Option Entry) (entries : List (Option Entry))
+      (row : Option Row) (rows : List (Option Row))
       → AreOutlined s h stands (build ∷ list) (held ∷ entries) → AreRowed s h stands (build ∷ list) (row ∷ rows)
       → (stands build.name ≡ false → goal None None)
-      → ((entry : Entry) (one : Row) → IsTold s h stands (build, entry) → without_slots one.coming ≡ coming_of s h build → goal (Some entry) (Some one)) → goal held row
+      → ((entry : Entry) (one : Row) → IsTold s h stands (build, entry) → without_slots one.coming ≡ coming_of s h build → goal (Some entry) (Some one))
+      → goal held row
   by_both goal build list held entries row rows e f none some =
       let outlined : option_map outline held ≡ outline_at s h stands build = cc in
       let rowed : option_map bare row ≡ row_at s h stands build = cc in
@@ -110,7 +113,8 @@ module _ (s : Session) (h : History) (stands : ℕ → Bool) (whole : List Build
       no_row (Some one) off is g = let bad : Some (bare one) ≡ None = is ∙ ap (λ (b : Bool). cond b (Some (row_of s h build)) None) off in absurd (cc bad)
 
       a_row : (row : Option Row) (entry : Entry) → IsTold s h stands (build, entry) → option_map bare row ≡ row_at s h stands build
-          → ((one : Row) → IsTold s h stands (build, entry) → without_slots one.coming ≡ coming_of s h build → goal (Some entry) (Some one)) → goal (Some entry) row
+          → ((one : Row) → IsTold s h stands (build, entry) → without_slots one.coming ≡ coming_of s h build → goal (Some entry) (Some one))
+          → goal (Some entry) row
       a_row None entry told is g =
           let bad : None ≡ Some (row_of s h build) = is ∙ ap (λ (b : Bool). cond b (Some (row_of s h build)) None) told.standing in absurd (cc bad)
       a_row (Some one) entry told is g =
@@ -118,7 +122,8 @@ module _ (s : Session) (h : History) (stands : ℕ → Bool) (whole : List Build
           let bares : bare one ≡ row_of s h build = cc in
           g one told (ap (λ (r : Row). r.coming) bares)
 
-  rows_rest : (build : Build) (list : List Build) (row : Option Row) (rows : List (Option Row)) → AreRowed s h stands (build ∷ list) (row ∷ rows) → AreRowed s h stands list rows
+  rows_rest : (build : Build) (list : List Build) (row : Option Row) (rows : List (Option Row)) → AreRowed s h stands (build ∷ list) (row ∷ rows)
+      → AreRowed s h stands list rows
   rows_rest build list row rows e = cc
 
   status_is : (build : Build) (entry : Entry) → IsTold s h stands (build, entry) → entry.status ≡ status_now s h build
@@ -131,7 +136,8 @@ module _ (s : Session) (h : History) (stands : ℕ → Bool) (whole : List Build
   written_any numbers waiting e are = absurd (false_true e)
   written_any numbers (gathering segments) e are = absurd (false_true e)
   written_any numbers (writing slots came) e are =
-      sym (any_map (is_number piece.number) (piece_at shares) slots) ∙ ap (list_any (is_number piece.number)) are ∙ any_map (is_number piece.number) (λ (number : ℕ). Some number) numbers
+      sym (any_map (is_number piece.number) (piece_at shares) slots) ∙ ap (list_any (is_number piece.number)) are
+      ∙ any_map (is_number piece.number) (λ (number : ℕ). Some number) numbers
 
   some_writes : (coming : Coming) → list_any passes (coming_slots coming) ≡ true → is_writing coming ≡ true
   some_writes settled e = absurd (false_true e)
@@ -140,7 +146,8 @@ module _ (s : Session) (h : History) (stands : ℕ → Bool) (whole : List Build
   some_writes (writing slots came) e = refl
 
   -- an entry whose bytes are to come has its own pieces
-  has_coming : (build : Build) (entry : Entry) → IsTold s h stands (build, entry) → IsEntryFor whole all shares own build entry → status_now s h build ≡ statuses.PendingTransport
+  has_coming : (build : Build) (entry : Entry) → IsTold s h stands (build, entry) → IsEntryFor whole all shares own build entry
+      → status_now s h build ≡ statuses.PendingTransport
       → list_any (λ (each : ℕ). each == piece.number) (own build.name) ≡ true → has_piece shares piece.number (build, entry) ≡ true
   has_coming build entry told fine sent among =
       let status : entry.status ≡ statuses.PendingTransport = status_is build entry told ∙ sent in
@@ -152,11 +159,13 @@ module _ (s : Session) (h : History) (stands : ℕ → Bool) (whole : List Build
 
   abbrev pub Comes : List Build → List (Option Row) → Build × Entry → Type 0
   Comes list rows pair =
-      pair.1.status ≡ statuses.PendingTransport → list_any (is_own_step piece.number) pair.1.recipe ≡ true → (on_way rows || is_gathered list rows piece.blob) ≡ true
+      pair.1.status ≡ statuses.PendingTransport → list_any (is_own_step piece.number) pair.1.recipe ≡ true
+      → (on_way rows || is_gathered list rows piece.blob) ≡ true
 
   further : (build : Build) (list : List Build) (row : Option Row) (rows : List (Option Row)) (pairs : List (Build × Entry)) → named build.name list ≡ false
       → AllByRecursion (Comes list rows) pairs → AllByRecursion (Comes (build ∷ list) (row ∷ rows)) pairs
-  further build list row rows pairs fresh each = for_each (Comes list rows) (Comes (build ∷ list) (row ∷ rows)) pairs (λ pair f status steps. up (f status steps)) each
+  further build list row rows pairs fresh each = for_each (Comes list rows) (Comes (build ∷ list) (row ∷ rows)) pairs (λ pair f status steps. up
+      (f status steps)) each
     where
       up : (on_way rows || is_gathered list rows piece.blob) ≡ true → (on_way (row ∷ rows) || is_gathered (build ∷ list) (row ∷ rows) piece.blob) ≡ true
       up e =
@@ -170,7 +179,8 @@ module _ (s : Session) (h : History) (stands : ℕ → Bool) (whole : List Build
           (or_cases (on_way rows) (is_gathered list rows piece.blob) e)
 
   comes_first : (build : Build) (list : List Build) (entry : Entry) (one : Row) (rows : List (Option Row)) → IsTold s h stands (build, entry)
-      → without_slots one.coming ≡ coming_of s h build → IsEntryFor whole all shares own build entry → Written build one → Comes (build ∷ list) (Some one ∷ rows) (build, entry)
+      → without_slots one.coming ≡ coming_of s h build → IsEntryFor whole all shares own build entry → Written build one
+      → Comes (build ∷ list) (Some one ∷ rows) (build, entry)
   comes_first build list entry one rows told coming_is fine written status steps =
       let sent = sent_by_status s h build (ends build.name) (sym (status_is build entry told) ∙ status) in
       let among : list_any (λ (each : ℕ). each == piece.number) (own build.name) ≡ true =
@@ -188,21 +198,24 @@ module _ (s : Session) (h : History) (stands : ℕ → Bool) (whole : List Build
       (sent_comes s h build sent)
 
   pub all_come : (list : List Build) (entries : List (Option Entry)) (rows : List (Option Row)) → Distinct list → AreOutlined s h stands list entries
-      → Beside (EntryStands whole all shares own) list entries → AreRowed s h stands list rows → RowsBeside Written list rows → AllByRecursion (Comes list rows) (paired list entries)
+      → Beside (EntryStands whole all shares own) list entries → AreRowed s h stands list rows → RowsBeside Written list rows
+      → AllByRecursion (Comes list rows) (paired list entries)
   all_come [] entries rows distinct e beside f written = tt
   all_come (build ∷ list) [] rows distinct e beside f written = tt
   all_come (build ∷ list) (held ∷ entries) [] distinct e beside f written = absurd (cc f)
   all_come (build ∷ list) (held ∷ entries) (row ∷ rows) distinct e beside f written =
       by_both
       (λ (o : Option Entry) (r : Option Row).
-      EntryStands whole all shares own build o → RowsBeside Written (build ∷ list) (r ∷ rows) → AllByRecursion (Comes (build ∷ list) (r ∷ rows)) (paired (build ∷ list) (o ∷ entries))) build list held
+      EntryStands whole all shares own build o → RowsBeside Written (build ∷ list) (r ∷ rows)
+      → AllByRecursion (Comes (build ∷ list) (r ∷ rows)) (paired (build ∷ list) (o ∷ entries))) build list held
       entries row rows e f
       (λ off fine also.
-      further build list None rows (paired list entries) distinct.0 (all_come list entries rows distinct.1 (rest_of s h stands build list held entries e) beside.1 (rows_rest build list row rows f) also))
-      (λ entry one told coming_is fine also.
-      (
+      further build list None rows (paired list entries) distinct.0 (all_come list entries rows distinct.1
+      (rest_of s h stands build list held entries e) beside.1 (rows_rest build list row rows f) also))
+      (λ entry one told coming_is fine also. (
         comes_first build list entry one rows told coming_is fine also.0,
-        further build list (Some one) rows (paired list entries) distinct.0 (all_come list entries rows distinct.1 (rest_of s h stands build list held entries e) beside.1 (rows_rest build list row rows f) also.1),
+        further build list (Some one) rows (paired list entries) distinct.0 (all_come list entries rows distinct.1
+            (rest_of s h stands build list held entries e) beside.1 (rows_rest build list row rows f) also.1),
       )) beside.0 written
 
   -- ---- what is on its way an entry has
@@ -230,15 +243,18 @@ module _ (s : Session) (h : History) (stands : ℕ → Bool) (whole : List Build
       (λ (more : on_way rows ≡ true).
       or_second (has_piece shares piece.number (build, entry)) (list_any (has_piece shares piece.number) (paired list entries))
       (way_had list entries rows (rest_of s h stands build list held entries e) beside.1 (rows_rest build list row rows f) also.1 more))
-      (or_cases (list_any passes (coming_slots one.coming)) (on_way rows) (sym (list_any-append passes (coming_slots one.coming) (pinned rows)) ∙ there))) beside.0 written way
+      (or_cases (list_any passes (coming_slots one.coming)) (on_way rows) (sym (list_any-append passes (coming_slots one.coming) (pinned rows))
+      ∙ there))) beside.0 written way
 
   -- ---- what is gathered is granted, and an entry has it
 
   abbrev pub IsHad : List (Build × Entry) → Type 0
   IsHad pairs = (is_granted_piece h whole piece ≡ true) × (list_any (has_piece shares piece.number) pairs ≡ true)
 
-  pub gathered_had : (list : List Build) (entries : List (Option Entry)) (rows : List (Option Row)) → AllByRecursion (λ (build : Build). build_in whole build.name ≡ Some build) list
-      → AreOutlined s h stands list entries → Beside (EntryStands whole all shares own) list entries → AreRowed s h stands list rows → is_gathered list rows piece.blob ≡ true
+  pub gathered_had : (list : List Build) (entries : List (Option Entry)) (rows : List (Option Row))
+      → AllByRecursion (λ (build : Build). build_in whole build.name ≡ Some build) list
+      → AreOutlined s h stands list entries → Beside (EntryStands whole all shares own) list entries → AreRowed s h stands list rows
+      → is_gathered list rows piece.blob ≡ true
       → IsHad (paired list entries)
   gathered_had [] entries rows there e beside f gather = absurd (false_true gather)
   gathered_had (build ∷ list) [] rows there e beside f gather = absurd beside
@@ -246,24 +262,27 @@ module _ (s : Session) (h : History) (stands : ℕ → Bool) (whole : List Build
   gathered_had (build ∷ list) (held ∷ entries) (row ∷ rows) there e beside f gather =
       by_both
       (λ (o : Option Entry) (r : Option Row).
-      EntryStands whole all shares own build o → is_gathered (build ∷ list) (r ∷ rows) piece.blob ≡ true → IsHad (paired (build ∷ list) (o ∷ entries))) build list held entries row rows e f
+      EntryStands whole all shares own build o → is_gathered (build ∷ list) (r ∷ rows) piece.blob ≡ true
+      → IsHad (paired (build ∷ list) (o ∷ entries))) build list held entries row rows e f
       (λ off fine now.
-      rest_none (build.name == piece.blob) now (gathered_had list entries rows there.1 (rest_of s h stands build list held entries e) beside.1 (rows_rest build list row rows f)))
+      rest_none (build.name == piece.blob) now (gathered_had list entries rows there.1 (rest_of s h stands build list held entries e) beside.1
+      (rows_rest build list row rows f)))
       (λ entry one told coming_is fine now.
       some (build.name == piece.blob) refl entry one told coming_is fine now
       (gathered_had list entries rows there.1 (rest_of s h stands build list held entries e) beside.1 (rows_rest build list row rows f))) beside.0 gather
     where
-      rest_none : (b : Bool) → cond b false (is_gathered list rows piece.blob) ≡ true → (is_gathered list rows piece.blob ≡ true → IsHad (paired list entries)) → IsHad (paired list entries)
+      rest_none : (b : Bool) → cond b false (is_gathered list rows piece.blob) ≡ true → (is_gathered list rows piece.blob ≡ true
+          → IsHad (paired list entries)) → IsHad (paired list entries)
       rest_none true now rest = absurd (false_true now)
       rest_none false now rest = rest now
 
-      some : (b : Bool) → (build.name == piece.blob) ≡ b → (entry : Entry) (one : Row) → IsTold s h stands (build, entry) → without_slots one.coming ≡ coming_of s h build
+      some : (b : Bool) → (build.name == piece.blob) ≡ b → (entry : Entry) (one : Row) → IsTold s h stands (build, entry)
+          → without_slots one.coming ≡ coming_of s h build
           → IsEntryFor whole all shares own build entry → cond b (gathers one.coming) (is_gathered list rows piece.blob) ≡ true
           → (is_gathered list rows piece.blob ≡ true → IsHad (paired list entries)) → IsHad ((build, entry) ∷ paired list entries)
       some true at entry one told coming_is fine now rest =
           let named_so : build.name ≡ piece.blob = eqb-true build.name piece.blob at in
-          let gathered = gathering_now s h build (ap gathers (sym coming_is) ∙ same_gathers one.coming ∙ now) in
-          (
+          let gathered = gathering_now s h build (ap gathers (sym coming_is) ∙ same_gathers one.coming ∙ now) in (
             ap (λ (o : Option Build). option_map_or (is_granted h) o false) (ap (build_in whole) (sym named_so) ∙ there.0) ∙ gathered.granted,
             or_first (has_piece shares piece.number (build, entry)) (list_any (has_piece shares piece.number) (paired list entries))
                 (has_coming build entry told fine gathered.status (ap (λ (n : ℕ). list_any (λ (each : ℕ). each == piece.number) (own n)) named_so ∙ mine)),

@@ -1,5 +1,5 @@
 -- How the bytes of an unfinished blob come, and the status that says it.
-use Rattle.std.proofs.Common.{◌≡◌, ℕ, ◌==◌, ◌⊎◌, Bool, true, false, ◌&&◌, ◌||◌, not, List, [], ◌∷◌, refl, ap, subst, sym, ◌∙◌, Option, Some, None, inl, inr, cond}
+use Rattle.std.proofs.Common.{◌≡◌, ℕ, ◌⊎◌, Bool, true, false, ◌&&◌, not, [], refl, ap, sym, ◌∙◌, Option, Some, None, inl, inr, cond}
 use Rattle.std.specs.Prelude.{is_none, unwrap_or, IfSome}
 use Rattle.blob_words.specs.declared.plan.Plan.{Plan}
 use Rattle.blob_words.specs.declared.plan.Plan.TheVariants as plans
@@ -38,7 +38,8 @@ status_of_sent s h build sent = go (ended h build.name) sent.begun ∙ by (is_wa
     go None e = refl
     go (Some status) e = absurd (false_true e)
 
-    by : (a b : Bool) → a ≡ false → b ≡ false → cond a statuses.PendingQuota (cond b statuses.PendingReferencedBlobs statuses.PendingTransport) ≡ statuses.PendingTransport
+    by : (a b : Bool) → a ≡ false → b ≡ false → cond a statuses.PendingQuota
+        (cond b statuses.PendingReferencedBlobs statuses.PendingTransport) ≡ statuses.PendingTransport
     by true b e f = absurd (false_true (sym e))
     by false true e f = absurd (false_true (sym f))
     by false false e f = refl
@@ -51,9 +52,10 @@ sent_by_status s h build apart e = go (ended h build.name) refl apart e
         → cond a statuses.PendingQuota (cond b statuses.PendingReferencedBlobs statuses.PendingTransport) ≡ statuses.PendingTransport → IsSent s h build
     parts true b w l begun f = absurd (cc f)
     parts false true w l begun f = absurd (cc f)
-    parts false false w l begun f = record { begun = begun; roomy = w; lacks = l; }
+    parts false false w l begun f = record { begun = begun; roomy = w; lacks = l }
 
-    go : (o : Option Status) → ended h build.name ≡ o → IfSome o (λ (status : Status). is_pending status ≡ false) → unwrap_or o (pending_status s h build) ≡ statuses.PendingTransport
+    go : (o : Option Status) → ended h build.name ≡ o → IfSome o (λ (status : Status). is_pending status ≡ false)
+        → unwrap_or o (pending_status s h build) ≡ statuses.PendingTransport
         → IsSent s h build
     go None at apart f = parts (is_waiting h build) (has_all s.limits h build) refl refl (ap is_none at) f
     go (Some status) at apart f = absurd (false_true (sym apart ∙ ap is_pending f))
@@ -63,13 +65,15 @@ pub waiting_by_status : (s : Session) (h : History) (build : Build) → IfSome (
     → status_now s h build ≡ statuses.PendingQuota → is_waiting h build ≡ true
 waiting_by_status s h build apart e = go (ended h build.name) apart e
   where
-    parts : (a b : Bool) → is_waiting h build ≡ a → cond a statuses.PendingQuota (cond b statuses.PendingReferencedBlobs statuses.PendingTransport) ≡ statuses.PendingQuota
+    parts : (a b : Bool) → is_waiting h build ≡ a → cond a statuses.PendingQuota
+        (cond b statuses.PendingReferencedBlobs statuses.PendingTransport) ≡ statuses.PendingQuota
         → is_waiting h build ≡ true
     parts true b w f = w
     parts false true w f = absurd (cc f)
     parts false false w f = absurd (cc f)
 
-    go : (o : Option Status) → IfSome o (λ (status : Status). is_pending status ≡ false) → unwrap_or o (pending_status s h build) ≡ statuses.PendingQuota → is_waiting h build ≡ true
+    go : (o : Option Status) → IfSome o (λ (status : Status). is_pending status ≡ false) → unwrap_or o (pending_status s h build) ≡ statuses.PendingQuota
+        → is_waiting h build ≡ true
     go None apart f = parts (is_waiting h build) (has_all s.limits h build) refl f
     go (Some status) apart f = absurd (false_true (sym apart ∙ ap is_pending f))
 
@@ -115,9 +119,11 @@ module _ (s : Session) (h : History) (build : Build) where
   has_none plan at e = ap (λ (p : Option Plan). has_all s.limits h (record build { plan = p })) at ∙ e
 
   -- a blob that is to get bytes gathers them or has them written
-  sent_by : (plan : Option Plan) → build.plan ≡ plan → IsSent s h build → (gathers (coming_by s h build plan) ≡ true) ⊎ (is_writing (coming_by s h build plan) ≡ true)
+  sent_by : (plan : Option Plan) → build.plan ≡ plan → IsSent s h build → (gathers (coming_by s h build plan) ≡ true) ⊎ (is_writing
+      (coming_by s h build plan) ≡ true)
   sent_by (Some (plans.Shared n)) at sent =
-      inl (both (is_granted h build) (has_all s.limits h build) (granted_shared n at ∙ go (was_granted h build.name) (sym (by_unfinished sent.begun) ∙ sym (waits_shared n at) ∙ sent.roomy)) sent.lacks)
+      inl (both (is_granted h build) (has_all s.limits h build) (granted_shared n at ∙ go (was_granted h build.name) (sym (by_unfinished sent.begun)
+      ∙ sym (waits_shared n at) ∙ sent.roomy)) sent.lacks)
     where
       by_unfinished : is_unfinished h build.name ≡ true → (is_unfinished h build.name && not (was_granted h build.name)) ≡ not (was_granted h build.name)
       by_unfinished e = ap (λ (b : Bool). b && not (was_granted h build.name)) e
@@ -167,9 +173,11 @@ module _ (s : Session) (h : History) (build : Build) where
           by true false e = absurd (false_true e)
           by false c e = refl
 
-      go : (a b : Bool) → is_granted h build ≡ a → has_all s.limits h build ≡ b → gathers (cond a (cond b settled (gathering (gathered_of s h build))) waiting) ≡ true → IsGathering
+      go : (a b : Bool) → is_granted h build ≡ a → has_all s.limits h build ≡ b → gathers (cond a (cond b settled (gathering
+          (gathered_of s h build))) waiting) ≡ true → IsGathering
       go true false g l f =
-          let sent : IsSent s h build = record { begun = begun; roomy = roomy g; lacks = l; } in record { sent = sent; granted = g; status = status_of_sent s h build sent; }
+          let sent : IsSent s h build = record { begun = begun; roomy = roomy g; lacks = l } in
+          record { sent = sent; granted = g; status = status_of_sent s h build sent }
       go true true g l f = absurd (false_true f)
       go false b g l f = absurd (false_true f)
   gathering_by (Some (plans.File n)) at begun e = absurd (go (has_all s.limits h build) e)
@@ -190,12 +198,14 @@ module _ (s : Session) (h : History) (build : Build) where
       go true at f = gathering_by build.plan refl at f
       go false at f = absurd (false_true f)
 
-  writing_by : (plan : Option Plan) → build.plan ≡ plan → is_unfinished h build.name ≡ true → is_writing (coming_by s h build plan) ≡ true → status_now s h build ≡ statuses.PendingTransport
+  writing_by : (plan : Option Plan) → build.plan ≡ plan → is_unfinished h build.name ≡ true → is_writing (coming_by s h build plan) ≡ true
+      → status_now s h build ≡ statuses.PendingTransport
   writing_by (Some (plans.File n)) at begun e = go (has_all s.limits h build) refl e
     where
-      go : (b : Bool) → has_all s.limits h build ≡ b → is_writing (cond b settled (writing [] (came_of s h build))) ≡ true → status_now s h build ≡ statuses.PendingTransport
+      go : (b : Bool) → has_all s.limits h build ≡ b → is_writing (cond b settled (writing [] (came_of s h build))) ≡ true
+          → status_now s h build ≡ statuses.PendingTransport
       go true l f = absurd (false_true f)
-      go false l f = status_of_sent s h build (record { begun = begun; roomy = waits_other (Some (plans.File n)) refl at; lacks = l; })
+      go false l f = status_of_sent s h build (record { begun = begun; roomy = waits_other (Some (plans.File n)) refl at; lacks = l })
   writing_by (Some (plans.Shared n)) at begun e = absurd (go (is_granted h build) (has_all s.limits h build) e)
     where
       go : (a b : Bool) → is_writing (cond a (cond b settled (gathering (gathered_of s h build))) waiting) ≡ true → ⊥
@@ -211,7 +221,8 @@ module _ (s : Session) (h : History) (build : Build) where
   pub writing_now : is_writing (coming_of s h build) ≡ true → status_now s h build ≡ statuses.PendingTransport
   writing_now e = go (is_unfinished h build.name) refl e
     where
-      go : (b : Bool) → is_unfinished h build.name ≡ b → is_writing (cond b (coming_by s h build build.plan) settled) ≡ true → status_now s h build ≡ statuses.PendingTransport
+      go : (b : Bool) → is_unfinished h build.name ≡ b → is_writing (cond b (coming_by s h build build.plan) settled) ≡ true
+          → status_now s h build ≡ statuses.PendingTransport
       go true at f = writing_by build.plan refl at f
       go false at f = absurd (false_true f)
 
@@ -236,7 +247,8 @@ module _ (s : Session) (h : History) (build : Build) where
   gathering_as (Some plans.OutOfMemory) at e = absurd (false_true e)
   gathering_as (Some (plans.TooMany what)) at e = absurd (false_true e)
 
-  pub gathering_is : gathers (coming_of s h build) ≡ true → (coming_of s h build ≡ gathering (gathered_of s h build)) × ((n : ℕ) × (build.plan ≡ Some (plans.Shared n)))
+  pub gathering_is : gathers (coming_of s h build) ≡ true → (coming_of s h build ≡ gathering (gathered_of s h build)) × ((n : ℕ) × (build.plan ≡ Some
+      (plans.Shared n)))
   gathering_is e = go (is_unfinished h build.name) e
     where
       go : (b : Bool) → gathers (cond b (coming_by s h build build.plan) settled) ≡ true

@@ -1,10 +1,8 @@
 -- The cells of views that are joined, cut, or whose items change their place.
-use Rattle.std.proofs.Common.{◌≡◌, ℕ, zero, suc, ◌+◌, ◌≤◌, ◌<◌, List, [], ◌∷◌, ◌++◌, map, take, drop, refl, ap, sym, ◌∙◌, arith, Option, Some, None}
-use Rattle.std.specs.Prelude.{flat_map}
+use Rattle.std.proofs.Common.{◌≡◌, ℕ, zero, suc, ◌+◌, List, [], ◌∷◌, ◌++◌, map, take, drop, refl, ap, sym, ◌∙◌, arith, Option, Some}
 use Rattle.std.specs.List.{AllByRecursion, range_with_len}
 use Rattle.std.proofs.lemmas.List.{map-append, take-map, drop-map}
 use Rattle.std.proofs.lemmas.List.Concat.{flat_map-append}
-use Rattle.blob_words.specs.declared.number.PieceNo.{PieceNo}
 use Rattle.item_shares.specs.declared.item.Item.{Item}
 use Rattle.item_shares.specs.declared.shares.Share.{Share}
 use Rattle.item_shares.specs.Shares.{item_at}
@@ -13,11 +11,12 @@ use Rattle.blob_items.specs.Cells.{cells, view_cells}
 use Rattle.blob_model.specs.Builds.{Cell, sent, filed, lent, own_cells, file_cells, handle_cells}
 use Rattle.blob_model.specs.Pieces.{Piece}
 use Rattle.store_laws.specs.CellLaws.{IsSameAt}
-use Rattle.store_laws.specs.Cells.{piece_in, piece_cell, item_cell, cell_by, cell_at, denoted}
+use Rattle.store_laws.specs.Cells.{piece_cell, item_cell, cell_by, cell_at, denoted}
 
 -- ---- joined and cut
 
-pub denoted-append : (all : List Piece) (shares : List (Option Share)) (xs ys : List View) → denoted all shares (xs ++ ys) ≡ denoted all shares xs ++ denoted all shares ys
+pub denoted-append : (all : List Piece) (shares : List (Option Share)) (xs ys : List View)
+    → denoted all shares (xs ++ ys) ≡ denoted all shares xs ++ denoted all shares ys
 denoted-append all shares xs ys = ap (map (cell_at all shares)) (flat_map-append view_cells xs ys) ∙ map-append (cell_at all shares) (cells xs) (cells ys)
 
 pub denoted-cut : (all : List Piece) (shares : List (Option Share)) (views list : List View) (off len : ℕ) → cells list ≡ take len (drop off (cells views))
@@ -49,13 +48,15 @@ pub denoted-view : (all : List Piece) (shares : List (Option Share)) (view : Vie
     → map (cell_at all shares) (view_cells view) ≡ map (item_cell all item) (range_with_len view.off view.len)
 denoted-view all shares view item held =
     map-map (cell_at all shares) (λ (place : ℕ). (view.slot, place)) (range_with_len view.off view.len)
-    ∙ map-same (λ (place : ℕ). cell_by all (item_at shares view.slot) place) (item_cell all item) (λ place. ap (λ (o : Option Item). cell_by all o place) held) (range_with_len view.off view.len)
+    ∙ map-same (λ (place : ℕ). cell_by all (item_at shares view.slot) place) (item_cell all item) (λ place. ap (λ
+    (o : Option Item). cell_by all o place) held) (range_with_len view.off view.len)
 
 -- the bytes of a piece from a place on are own cells of its blob, those of a range of a file or a handle are its cells
 pub piece-cells : (piece : Piece) (off len : ℕ) → map (piece_cell (Some piece)) (range_with_len off len) ≡ own_cells piece.blob (piece.from + off) len
 piece-cells piece off len = map-shifted (λ (index : ℕ). sent piece.blob index) piece.from off len
 
-pub file-cells : (name : List ℕ) (stamp start off len : ℕ) → map (λ (place : ℕ). filed name stamp (start + place)) (range_with_len off len) ≡ file_cells name stamp (start + off) len
+pub file-cells : (name : List ℕ) (stamp start off len : ℕ) → map (λ (place : ℕ). filed name stamp (start + place))
+    (range_with_len off len) ≡ file_cells name stamp (start + off) len
 file-cells name stamp start off len = map-shifted (λ (index : ℕ). filed name stamp index) start off len
 
 pub range-cells : (slot start off len : ℕ) → map (λ (place : ℕ). lent slot (start + place)) (range_with_len off len) ≡ handle_cells slot (start + off) len
@@ -63,7 +64,8 @@ range-cells slot start off len = map-shifted (λ (index : ℕ). lent slot index)
 
 -- ---- items that change their place
 
-pub denoted-same : (all : List Piece) (old new : List (Option Share)) (views : List View) → AllByRecursion (IsSameAt all old new) views → denoted all new views ≡ denoted all old views
+pub denoted-same : (all : List Piece) (old new : List (Option Share)) (views : List View) → AllByRecursion (IsSameAt all old new) views
+    → denoted all new views ≡ denoted all old views
 denoted-same all old new [] same = refl
 denoted-same all old new (view ∷ views) same =
     map-append (cell_at all new) (view_cells view) (cells views)

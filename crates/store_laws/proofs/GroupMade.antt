@@ -1,45 +1,21 @@
 -- A group is a line's own answers and the seven lists of settling, one after the other.
-use Rattle.std.proofs.Common.{◌≡◌, ℕ, ◌==◌, ◌⊎◌, Bool, true, false, ◌&&◌, ◌||◌, not, List, [], ◌∷◌, ◌++◌, map, length, reverse, refl, ap, subst, sym, ◌∙◌, Option, Some, None, inl, inr, ⊎_elim, append_assoc, append-nil, zero, suc}
-use Rattle.std.specs.Prelude.{cond, filter, flat_map, find, nat_le, nat_lt}
-use Rattle.std.specs.Option.{option_to_list, option_map}
-use Rattle.std.specs.List.{AllByRecursion, list_any}
+use Rattle.std.proofs.Common.{◌≡◌, ℕ, false, List, [], ◌∷◌, ◌++◌, ap, subst, sym, ◌∙◌, append_assoc, append-nil}
+use Rattle.std.specs.Prelude.{filter}
 use Rattle.std.proofs.lemmas.List.Concat.{flat_map-append}
-use Rattle.blob_words.specs.declared.plan.Plan.{Plan}
-use Rattle.blob_words.specs.declared.plan.Plan.TheVariants as plans
-use Rattle.blob_words.specs.declared.number.ReaderId.{ReaderId}
-use Rattle.blob_words.specs.declared.number.JobNo.{JobNo}
-use Rattle.blob_words.specs.declared.status.Status.{Status}
-use Rattle.blob_words.specs.declared.status.Status.TheVariants as statuses
 use Rattle.blob_words.specs.declared.tally.Tally.{Tally}
 use Rattle.session_script.specs.declared.event.Event.{Event}
-use Rattle.session_script.specs.declared.event.Event.TheVariants as events
-use Rattle.session_script.specs.declared.event.Part.{Part}
 use Rattle.answer_text.specs.declared.answer.Answer.{Answer}
-use Rattle.answer_text.specs.declared.answer.Answer.TheVariants as answers
-use Rattle.answer_text.specs.declared.refusal.Refusal.{Refusal}
-use Rattle.answer_text.specs.declared.group.Group.{Group}
 use Rattle.blob_model.specs.Session.{Session}
-use Rattle.blob_model.specs.History.{History, said, said_all, after, has_ended}
-use Rattle.blob_model.specs.Builds.{Build, Cell, sent, filed, lent, builds, slice_parts}
-use Rattle.blob_model.specs.Pieces.{Piece, pieces, piece_with}
-use Rattle.blob_model.specs.Pages.{Place, in_memory, reserved, in_page, pages, place}
-use Rattle.blob_model.specs.Jobs.{in_flight}
-use Rattle.blob_model.specs.Readers.{OpenReader, reader_at}
-use Rattle.blob_model.specs.Standing.{ended, is_unfinished}
-use Rattle.blob_model.specs.Tally.{tally, files, job_left, memory}
+use Rattle.blob_model.specs.History.{History, said_all, after, has_ended}
+use Rattle.blob_model.specs.Builds.{builds}
+use Rattle.blob_model.specs.Pages.{pages}
+use Rattle.blob_model.specs.Tally.{tally, files}
 use Rattle.blob_model.specs.Waits.{waits}
-use Rattle.blob_model.specs.Choice.{IsOneOf, first_that}
-use Rattle.blob_model.specs.Chunk.{left, chunk, file_of, first_failing, before_failing}
-use Rattle.blob_model.specs.Live.{live, is_live}
-use Rattle.blob_model.specs.Entries.{owns_entry}
-use Rattle.blob_model.specs.Construct.{build_answer, build_answer_by, line_status}
-use Rattle.blob_model.specs.Refusals.{refusal}
-use Rattle.blob_model.specs.Own.{IsOwn, IsOwnBy, IsAccepted, IsStep, IsStepBy, IsNext, IsRead, accepted, failing, stored_answers, unstored_answers, plan_in, job_done, job_failed, source_of, read_faults, cell_fault, page_fault, sent_fault}
-use Rattle.blob_model.specs.Settle.{drops, endings, endings_of, ending_answers, ending, ending_tests, removals, grants, grants_of, page_jobs, page_job_of, may_start, compactions, compaction, movable, settle, settle_by, is_due, IsSettled}
+use Rattle.blob_model.specs.Chunk.{left}
+use Rattle.blob_model.specs.Live.{live}
+use Rattle.blob_model.specs.Own.{IsOwn}
+use Rattle.blob_model.specs.Settle.{drops, endings, removals, grants, page_jobs, compactions, settle, settle_by, is_due, IsSettled}
 use Rattle.blob_model.specs.Legal.{left_file, left_files, IsLegalGroup}
-use Rattle.blob_model.specs.Victims.{chosen}
-use Rattle.blob_model.proofs.settled.Endings.{some_that}
-use Rattle.blob_model.proofs.settled.Endings.{one_by}
 use Rattle.blob_model.proofs.settled.Groups.{own_first}
 use Rattle.blob_model.proofs.settled.Groups.{after_own}
 use Rattle.blob_model.proofs.live.Agreement.{said_append}
@@ -54,17 +30,16 @@ use Rattle.blob_model.proofs.settled.Removals.{removals_late}
 use Rattle.blob_model.proofs.settled.GrantsAndJobs.{grants_late}
 use Rattle.blob_model.proofs.settled.GrantsAndJobs.{page_jobs_still}
 use Rattle.blob_model.proofs.settled.GrantsAndJobs.{compactions_still}
-
 use Rattle.store_laws.specs.Settling.{after_drops, after_endings, after_late_drops, after_removals, after_grants, after_page_jobs, after_all, answers_of}
 use Rattle.store_laws.proofs.LeftFiles.{LeavesNone, leaves-append, drops_leave, endings_leave, grants_leave, page_jobs_leave, compactions_leave, own_leaves}
-
 
 -- lists that are put behind one another
 joined : (o a b c d e f g : List Answer) → ((((((o ++ a) ++ b) ++ c) ++ d) ++ e) ++ f) ++ g ≡ o ++ (a ++ (b ++ (c ++ (d ++ (e ++ (f ++ (g ++ [])))))))
 joined o a b c d e f g = simp (append_assoc, append-nil)
 
 said_seven : (h : History) (a b c d e f g : List Answer)
-    → said_all h (a ++ (b ++ (c ++ (d ++ (e ++ (f ++ (g ++ []))))))) ≡ said_all (said_all (said_all (said_all (said_all (said_all (said_all h a) b) c) d) e) f) g
+    → said_all h (a ++ (b ++ (c ++ (d ++ (e ++ (f ++ (g ++ []))))))) ≡ said_all (said_all (said_all (said_all (said_all (said_all
+    (said_all h a) b) c) d) e) f) g
 said_seven h a b c d e f g =
     let ha = said_all h a in
     let hb = said_all ha b in
@@ -100,8 +75,10 @@ module _ (s : Session) (h : History) (event : Event) (own l4 : List Answer) wher
   line = after h event own
 
   -- the lists make a legal group
-  pub group_legal : IsOwn s h event own → l4 ≡ removals s (left_files l4) (after_late_drops s line) → has_ended h ≡ false → (counted : Tally) → counted ≡ tally s.limits.page (after_all s l4 line)
-      → IsLegalGroup s h (record { event = event; answers = (answers_of s own l4 line); tally = counted }) × (after h event (answers_of s own l4 line) ≡ (after_all s l4 line))
+  pub group_legal : IsOwn s h event own → l4 ≡ removals s (left_files l4) (after_late_drops s line) → has_ended h ≡ false → (counted : Tally)
+      → counted ≡ tally s.limits.page (after_all s l4 line)
+      → IsLegalGroup s h (record { event = event; answers = (answers_of s own l4 line); tally = counted }) × (after h event (answers_of s own l4 line) ≡
+      (after_all s l4 line))
   group_legal is removed still counted counts =
       let d1 = drops s line in
       let e2 = endings s (after_drops s line) in
@@ -110,16 +87,19 @@ module _ (s : Session) (h : History) (event : Event) (own l4 : List Answer) wher
       let p6 = page_jobs s (after_grants s l4 line) in
       let c7 = compactions s (after_page_jobs s l4 line) in
       let left_is : left_files (answers_of s own l4 line) ≡ left_files l4 =
-      left_eight own d1 e2 d3 l4 g5 p6 c7 (own_leaves s h event own is) (drops_leave s line) (endings_leave s (after_drops s line) (builds s.limits.page (after_drops s line))) (drops_leave s (after_endings s line))
-      (grants_leave s (after_removals s l4 line) (waits s.limits.page (after_removals s l4 line))) (page_jobs_leave s (after_grants s l4 line)) (compactions_leave s (after_page_jobs s l4 line)) in
+      left_eight own d1 e2 d3 l4 g5 p6 c7 (own_leaves s h event own is) (drops_leave s line) (endings_leave s (after_drops s line) (builds s.limits.page
+      (after_drops s line))) (drops_leave s (after_endings s line))
+      (grants_leave s (after_removals s l4 line) (waits s.limits.page (after_removals s l4 line))) (page_jobs_leave s (after_grants s l4 line))
+      (compactions_leave s (after_page_jobs s l4 line)) in
       let rest : settle s (left_files l4) line ≡ d1 ++ (e2 ++ (d3 ++ (l4 ++ (g5 ++ (p6 ++ (c7 ++ [])))))) =
-      ap (λ (list : List Answer). d1 ++ (e2 ++ (d3 ++ (list ++ settle_by (grants s ∷ page_jobs s ∷ compactions s ∷ []) (said_all (after_late_drops s line) list))))) (sym removed) in
+      ap (λ (list : List Answer). d1 ++ (e2 ++ (d3 ++ (list ++ settle_by (grants s ∷ page_jobs s ∷ compactions s ∷ []) (said_all
+      (after_late_drops s line) list))))) (sym removed) in
       let owed : settle s (left_files (answers_of s own l4 line)) line ≡ d1 ++ (e2 ++ (d3 ++ (l4 ++ (g5 ++ (p6 ++ (c7 ++ [])))))) =
       ap (λ (left : List ℕ). settle s left line) left_is ∙ rest in
       let whole : (answers_of s own l4 line) ≡ own ++ (d1 ++ (e2 ++ (d3 ++ (l4 ++ (g5 ++ (p6 ++ (c7 ++ []))))))) = joined own d1 e2 d3 l4 g5 p6 c7 in
       let later : after h event (answers_of s own l4 line) ≡ (after_all s l4 line) =
-      ap (after h event) whole ∙ after_own h event own (d1 ++ (e2 ++ (d3 ++ (l4 ++ (g5 ++ (p6 ++ (c7 ++ []))))))) (own_first s h event own is) ∙ said_seven line d1 e2 d3 l4 g5 p6 c7 in
-      (
+      ap (after h event) whole ∙ after_own h event own (d1 ++ (e2 ++ (d3 ++ (l4 ++ (g5 ++ (p6 ++ (c7 ++ []))))))) (own_first s h event own is)
+      ∙ said_seven line d1 e2 d3 l4 g5 p6 c7 in (
         record {
           open_still = still;
           own = own;
@@ -132,31 +112,38 @@ module _ (s : Session) (h : History) (event : Event) (own l4 : List Answer) wher
 
   seven : l4 ≡ removals s (left_files l4) (after_late_drops s line) → said_all line (settle s (left_files l4) line) ≡ (after_all s l4 line)
   seven removed =
-      ap (λ (list : List Answer). said_all line (drops s line ++ (endings s (after_drops s line) ++ (drops s (after_endings s line) ++ (list ++ settle_by (grants s ∷ page_jobs s ∷ compactions s ∷ []) (said_all (after_late_drops s line) list)))))) (sym removed)
-      ∙ said_seven line (drops s line) (endings s (after_drops s line)) (drops s (after_endings s line)) l4 (grants s (after_removals s l4 line)) (page_jobs s (after_grants s l4 line)) (compactions s (after_page_jobs s l4 line))
+      ap (λ (list : List Answer). said_all line (drops s line ++ (endings s (after_drops s line) ++ (drops s (after_endings s line) ++ (list ++ settle_by
+      (grants s ∷ page_jobs s ∷ compactions s ∷ []) (said_all (after_late_drops s line) list)))))) (sym removed)
+      ∙ said_seven line (drops s line) (endings s (after_drops s line)) (drops s (after_endings s line)) l4 (grants s (after_removals s l4 line))
+      (page_jobs s (after_grants s l4 line)) (compactions s (after_page_jobs s l4 line))
 
   -- what every legal history keeps holds after them, and nothing is owed
-  pub settled_all : Kept s h → IsOwn s h event own → l4 ≡ removals s (left_files l4) (after_late_drops s line) → Kept s (after_all s l4 line) × IsSettled s (after_all s l4 line)
+  pub settled_all : Kept s h → IsOwn s h event own → l4 ≡ removals s (left_files l4) (after_late_drops s line)
+      → Kept s (after_all s l4 line) × IsSettled s (after_all s l4 line)
   settled_all kept is removed =
       let here : Kept s line = kept_own s h event own own [] kept is (sym (append-nil own)) in
-      let path = seven removed in
-      (
+      let path = seven removed in (
         subst (λ (g : History). Kept s g) path (kept_all s line (settle s (left_files l4) line) here),
         subst (λ (g : History). IsSettled s g) path (settled_once s (left_files l4) line here),
       )
 
 -- the lists behind the drops of list 3 change no life
 module _ (s : Session) (line : History) (l4 : List Answer) where
-  pub late_removals : l4 ≡ removals s (left_files l4) (after_late_drops s line) → live s.limits.page (after_removals s l4 line) ≡ live s.limits.page (after_late_drops s line)
+  pub late_removals : l4 ≡ removals s (left_files l4) (after_late_drops s line) → live s.limits.page (after_removals s l4 line) ≡ live s.limits.page
+      (after_late_drops s line)
   late_removals removed =
       live_late s.limits.page (after_late_drops s line) l4
-      (subst AllLate (sym removed) (removals_late (left_files l4) (filter (is_due (after_late_drops s line) (files s.limits.page (after_late_drops s line))) (pages (after_late_drops s line)))))
+      (subst AllLate (sym removed) (removals_late (left_files l4) (filter (is_due (after_late_drops s line) (files s.limits.page
+      (after_late_drops s line))) (pages (after_late_drops s line)))))
 
   pub late_grants : live s.limits.page (after_grants s l4 line) ≡ live s.limits.page (after_removals s l4 line)
-  late_grants = live_late s.limits.page (after_removals s l4 line) (grants s (after_removals s l4 line)) (grants_late s (after_removals s l4 line) (waits s.limits.page (after_removals s l4 line)))
+  late_grants = live_late s.limits.page (after_removals s l4 line) (grants s (after_removals s l4 line)) (grants_late s (after_removals s l4 line)
+      (waits s.limits.page (after_removals s l4 line)))
 
   pub late_page_jobs : live s.limits.page (after_page_jobs s l4 line) ≡ live s.limits.page (after_grants s l4 line)
-  late_page_jobs = live_late s.limits.page (after_grants s l4 line) (page_jobs s (after_grants s l4 line)) (all_late (page_jobs s (after_grants s l4 line)) (page_jobs_still s (after_grants s l4 line)))
+  late_page_jobs = live_late s.limits.page (after_grants s l4 line) (page_jobs s (after_grants s l4 line)) (all_late (page_jobs s (after_grants s l4 line))
+      (page_jobs_still s (after_grants s l4 line)))
 
   pub late_compactions : live s.limits.page (after_all s l4 line) ≡ live s.limits.page (after_page_jobs s l4 line)
-  late_compactions = live_late s.limits.page (after_page_jobs s l4 line) (compactions s (after_page_jobs s l4 line)) (all_late (compactions s (after_page_jobs s l4 line)) (compactions_still s (after_page_jobs s l4 line)))
+  late_compactions = live_late s.limits.page (after_page_jobs s l4 line) (compactions s (after_page_jobs s l4 line)) (all_late (compactions s
+      (after_page_jobs s l4 line)) (compactions_still s (after_page_jobs s l4 line)))

@@ -1,6 +1,6 @@
 -- Some unbroken blob has a cell that passes exactly where a view of one that is done passes, or a step of an unfinished one.
-use Rattle.std.proofs.Common.{◌≡◌, ℕ, zero, suc, ◌==◌, ◌⊎◌, Bool, true, false, ◌&&◌, ◌||◌, List, [], ◌∷◌, ◌++◌, take, drop, refl, ap, subst, sym, ◌∙◌, Option, inl, inr, ⊎_elim}
-use Rattle.std.specs.Prelude.{flat_map}
+use Rattle.std.proofs.Common.{◌≡◌, ℕ, zero, suc, ◌==◌, ◌⊎◌, Bool, true, false, ◌&&◌, ◌||◌, List, []}
+use Rattle.std.proofs.Common.{◌∷◌, ◌++◌, take, drop, refl, ap, subst, sym, ◌∙◌, Option, inl, inr, ⊎_elim}
 use Rattle.std.specs.List.{AllByRecursion, list_any}
 use Rattle.std.proofs.lemmas.Bool.{and_parts, eqb-true, eq-eqb}
 use Rattle.std.proofs.lemmas.List.Folds.{list_any-append}
@@ -50,7 +50,7 @@ pub record IsRead (all : List Piece) (shares : List (Option Share)) (test : Cell
   pub source : (name off len : ℕ) → mine (Source name off len) ≡ false
 
 module _ (list : List Build) (all : List Piece) (shares : List (Option Share)) (own : ℕ → List ℕ) (test : Cell → Bool) (on : View → Bool) (mine : Step → Bool)
-  (read : IsRead all shares test on mine) where
+    (read : IsRead all shares test on mine) where
   -- ---- one recipe
 
   abbrev FromSource : List Step → Type 0
@@ -64,7 +64,8 @@ module _ (list : List Build) (all : List Piece) (shares : List (Option Share)) (
   first step recipe here next rest e =
       ⊎_elim
       (λ (now : list_any test (step_cells list all shares step) ≡ true).
-      ⊎_elim (λ (passes : mine step ≡ true). inl (or_first (mine step) (list_any mine recipe) passes)) (λ (from : FromSource (step ∷ recipe)). inr from) (here now))
+      ⊎_elim (λ (passes : mine step ≡ true). inl (or_first (mine step) (list_any mine recipe) passes)) (λ (from : FromSource (step ∷ recipe)). inr from)
+      (here now))
       (λ (more : list_any test (recipe_cells list all shares recipe) ≡ true). next (rest more))
       (or_cases (list_any test (step_cells list all shares step)) (list_any test (recipe_cells list all shares recipe))
       (sym (list_any-append test (step_cells list all shares step) (recipe_cells list all shares recipe)) ∙ e))
@@ -75,18 +76,19 @@ module _ (list : List Build) (all : List Piece) (shares : List (Option Share)) (
   recipe_has (Own number len ∷ recipe) sound e =
       first (Own number len) recipe (λ now. inl (sym (read.own number len sound.0) ∙ now))
       (λ rest.
-      ⊎_elim (λ (own : list_any mine recipe ≡ true). inl (or_second (mine (Own number len)) (list_any mine recipe) own)) (λ (from : FromSource recipe). inr from) rest)
+      ⊎_elim (λ (own : list_any mine recipe ≡ true). inl (or_second (mine (Own number len)) (list_any mine recipe) own)) (λ
+      (from : FromSource recipe). inr from) rest)
       (recipe_has recipe sound.1) e
   recipe_has (Fixed view ∷ recipe) sound e =
       first (Fixed view) recipe (λ now. inl (sym (read.fixed view sound.0) ∙ now))
       (λ rest.
-      ⊎_elim (λ (own : list_any mine recipe ≡ true). inl (or_second (mine (Fixed view)) (list_any mine recipe) own)) (λ (from : FromSource recipe). inr from) rest)
+      ⊎_elim (λ (own : list_any mine recipe ≡ true). inl (or_second (mine (Fixed view)) (list_any mine recipe) own)) (λ
+      (from : FromSource recipe). inr from) rest)
       (recipe_has recipe sound.1) e
   recipe_has (Source name off len ∷ recipe) sound e =
       first (Source name off len) recipe
       (λ now.
-      inr
-      (
+      inr (
         name,
         or_first (name == name) (takes_from name recipe) (eq-eqb name name refl),
         any_drop test off (cells_in list name) (any_take test len (drop off (cells_in list name)) now),
@@ -119,7 +121,8 @@ module _ (list : List Build) (all : List Piece) (shares : List (Option Share)) (
   Given entry status = (has_by on mine status entry ≡ true) ⊎ ((is_pending status ≡ true) × FromSource entry.recipe)
 
   by_recipe : (build : Build) (entry : Entry) (status : Status) → is_pending status ≡ true → list_any mine entry.recipe ≡ has_by on mine status entry
-      → IsEntryFor list all shares own build entry → recipe_cells list all shares entry.recipe ≡ build.cells → list_any test build.cells ≡ true → Given entry status
+      → IsEntryFor list all shares own build entry → recipe_cells list all shares entry.recipe ≡ build.cells → list_any test build.cells ≡ true
+      → Given entry status
   by_recipe build entry status pending has fine is e =
       ⊎_elim (λ (own : list_any mine entry.recipe ≡ true). inl (sym has ∙ own)) (λ (from : FromSource entry.recipe). inr (pending, from))
       (recipe_has entry.recipe fine.steps (ap (list_any test) is ∙ e))
@@ -191,6 +194,8 @@ module _ (list : List Build) (all : List Piece) (shares : List (Option Share)) (
       → list_any (reaches test) pairs ≡ list_any (has on mine) pairs
   reached_passes pairs closed ready =
       iff_true (list_any (reaches test) pairs) (list_any (has on mine) pairs)
-      (reach_all (list_any (has on mine) pairs ≡ true) (λ (name : ℕ). false) pairs closed ready (λ name e. absurd (false_true e)) (each_any (has on mine) pairs))
+      (reach_all (list_any (has on mine) pairs ≡ true) (λ (name : ℕ). false) pairs closed ready (λ name e. absurd (false_true e)) (each_any
+      (has on mine) pairs))
       (any_kept (has on mine) (reaches test) pairs
-      (for_each (IsReady list all shares own) (λ (pair : Build × Entry). has on mine pair ≡ true → reaches test pair ≡ true) pairs (λ pair r. has_reaches pair r) ready))
+      (for_each (IsReady list all shares own) (λ (pair : Build × Entry). has on mine pair ≡ true
+      → reaches test pair ≡ true) pairs (λ pair r. has_reaches pair r) ready))

@@ -1,8 +1,8 @@
 -- What slots weigh is what the pieces that they hold weigh.
-use Rattle.std.proofs.Common.{◌≡◌, ℕ, zero, suc, ◌+◌, ◌≤◌, ◌<◌, ◌==◌, ◌⊎◌, Bool, true, false, ◌||◌, List, [], ◌∷◌, length, get_or, refl, ap, subst, sym, ◌∙◌, arith, Option, Some, None, inl, inr, ⊎_elim}
+use Rattle.std.proofs.Common.{◌≡◌, ℕ, suc, ◌+◌, ◌<◌, ◌==◌, ◌⊎◌, Bool, true, false, ◌||◌, List, []}
+use Rattle.std.proofs.Common.{◌∷◌, refl, ap, subst, sym, ◌∙◌, arith, Option, Some, None, inl, inr, ⊎_elim}
 use Rattle.std.specs.Prelude.{cond, find, filter, sum_by, IsSomeAnd}
-use Rattle.std.specs.Option.{option_map}
-use Rattle.std.specs.List.{AllByRecursion, list_any}
+use Rattle.std.specs.List.{AllByRecursion}
 use Rattle.std.proofs.lemmas.Bool.{eqb-true, eq-eqb, ne_eqb, eqb-false, false_from_ne_true}
 use Rattle.std.proofs.lemmas.List.Sums.{sum_by-cons}
 use Rattle.item_shares.specs.declared.shares.Share.{Share}
@@ -11,10 +11,9 @@ use Rattle.blob_model.proofs.Lists.{false_true}
 use Rattle.blob_model.proofs.Lists.{or_cases}
 use Rattle.blob_model.proofs.builds.PieceNumbers.{AreNumbered}
 use Rattle.blob_model.proofs.builds.PieceNumbers.{FoundIn}
-use Rattle.blob_model.proofs.builds.PieceNumbers.{numbers_low}
 use Rattle.blob_model.proofs.builds.PieceNumbers.{found_number}
 use Rattle.store_laws.specs.Cells.{piece_in}
-use Rattle.store_laws.specs.Items.{piece_by, piece_at, piece_of_share, is_number, holds_piece, held, AreOnePerPiece}
+use Rattle.store_laws.specs.Items.{piece_at, piece_of_share, is_number, holds_piece, held, AreOnePerPiece}
 
 -- what a slot weighs is what its piece weighs; other items weigh nothing
 abbrev pub IsWeighed : List Piece → (Option Share → ℕ) → (Piece → ℕ) → Option Share → Option ℕ → Type 0
@@ -35,7 +34,8 @@ module _ (of_piece : Piece → ℕ) where
       rw apart (go (test piece) rest)
     where
       go : (b : Bool) → sum_by of_piece (filter (λ (piece : Piece). (n == piece.number) || test piece) list) ≡ sum_by of_piece (filter test list)
-          → sum_by of_piece (cond b (piece ∷ filter (λ (piece : Piece). (n == piece.number) || test piece) list) (filter (λ (piece : Piece). (n == piece.number) || test piece) list))
+          → sum_by of_piece (cond b (piece ∷ filter (λ (piece : Piece). (n == piece.number) || test piece) list) (filter (λ (piece : Piece).
+          (n == piece.number) || test piece) list))
           ≡ sum_by of_piece (cond b (piece ∷ filter test list) (filter test list))
       go true rest =
           sum_by-cons of_piece piece (filter (λ (piece : Piece). (n == piece.number) || test piece) list)
@@ -75,7 +75,8 @@ module _ (of_piece : Piece → ℕ) where
       two false = inr refl
 
       go : (b : Bool) → sum_by of_piece (filter (λ (each : Piece). (n == each.number) || test each) list) ≡ of_piece one + sum_by of_piece (filter test list)
-          → sum_by of_piece (cond b (piece ∷ filter (λ (each : Piece). (n == each.number) || test each) list) (filter (λ (each : Piece). (n == each.number) || test each) list))
+          → sum_by of_piece (cond b (piece ∷ filter (λ (each : Piece). (n == each.number) || test each) list) (filter (λ (each : Piece).
+          (n == each.number) || test each) list))
           ≡ of_piece one + sum_by of_piece (cond b (piece ∷ filter test list) (filter test list))
       go true rest =
           sum_by-cons of_piece piece (filter (λ (each : Piece). (n == each.number) || test each) list)
@@ -99,12 +100,15 @@ slot_with n (share ∷ shares) e =
 tail_apart : (share : Option Share) (shares : List (Option Share)) → AreOnePerPiece (share ∷ shares) → AreOnePerPiece shares
 tail_apart share shares apart one other number e f = let same : suc one ≡ suc other = apart (suc one) (suc other) number e f in omega (arith, same)
 
-head_apart : (share : Option Share) (shares : List (Option Share)) (number : ℕ) → AreOnePerPiece (share ∷ shares) → piece_of_share share ≡ Some number → holds_piece shares number ≡ false
+head_apart : (share : Option Share) (shares : List (Option Share)) (number : ℕ) → AreOnePerPiece (share ∷ shares) → piece_of_share share ≡ Some number
+    → holds_piece shares number ≡ false
 head_apart share shares number apart e =
-    false_from_ne_true (holds_piece shares number) (λ there. let slot = slot_with number shares there in let same : 0 ≡ suc slot.0 = apart 0 (suc slot.0) number e slot.1 in omega (arith, same))
+    false_from_ne_true (holds_piece shares number) (λ there. let slot = slot_with number shares there in let same : 0 ≡ suc slot.0 = apart 0
+    (suc slot.0) number e slot.1 in omega (arith, same))
 
 -- what slots weigh is what the pieces held weigh
-pub weights_held : (all : List Piece) (weight : Option Share → ℕ) (of_piece : Piece → ℕ) (shares : List (Option Share)) → AreNumbered 0 all → AreOnePerPiece shares
+pub weights_held : (all : List Piece) (weight : Option Share → ℕ) (of_piece : Piece → ℕ) (shares : List (Option Share)) → AreNumbered 0 all
+    → AreOnePerPiece shares
     → AllByRecursion (λ (share : Option Share). IsWeighed all weight of_piece share (piece_of_share share)) shares
     → sum_by weight shares ≡ sum_by of_piece (held shares all)
 weights_held all weight of_piece [] numbered apart weighed = sym (nothing all)
@@ -116,17 +120,21 @@ weights_held all weight of_piece (share ∷ shares) numbered apart weighed =
     sum_by-cons weight share shares
     ∙ by (piece_of_share share) refl weighed.0 (weights_held all weight of_piece shares numbered (tail_apart share shares apart) weighed.1)
   where
-    on : (o : Option ℕ) (found : Option Piece) → (number : ℕ) → o ≡ Some number → holds_piece shares number ≡ false → find (λ (each : Piece). each.number == number) all ≡ found
+    on : (o : Option ℕ) (found : Option Piece) → (number : ℕ) → o ≡ Some number → holds_piece shares number ≡ false
+        → find (λ (each : Piece). each.number == number) all ≡ found
         → IsSomeAnd found (λ (piece : Piece). weight share ≡ of_piece piece) → sum_by weight shares ≡ sum_by of_piece (held shares all)
         → weight share + sum_by weight shares ≡ sum_by of_piece (filter (λ (piece : Piece). is_number piece.number o || holds_piece shares piece.number) all)
     on o None number e fresh at is rest = absurd is
     on o (Some one) number e fresh at is rest =
         let fresh_one : holds_piece shares one.number ≡ false = ap (holds_piece shares) (found_number all number one at) ∙ fresh in
-        subst (λ (p : Option ℕ). weight share + sum_by weight shares ≡ sum_by of_piece (filter (λ (piece : Piece). is_number piece.number p || holds_piece shares piece.number) all)) (sym e)
+        subst (λ (p : Option ℕ). weight share + sum_by weight shares ≡ sum_by of_piece (filter (λ
+        (piece : Piece). is_number piece.number p || holds_piece shares piece.number) all)) (sym e)
         (omega (arith, is, rest, sum_insert of_piece number 0 (λ (piece : Piece). holds_piece shares piece.number) all one numbered at fresh_one))
 
     by : (o : Option ℕ) → piece_of_share share ≡ o → IsWeighed all weight of_piece share o → sum_by weight shares ≡ sum_by of_piece (held shares all)
-        → weight share + sum_by weight shares ≡ sum_by of_piece (filter (λ (piece : Piece). is_number piece.number (piece_of_share share) || holds_piece shares piece.number) all)
+        → weight share + sum_by weight shares ≡ sum_by of_piece (filter (λ (piece : Piece). is_number piece.number
+        (piece_of_share share) || holds_piece shares piece.number) all)
     by None e is rest =
-        subst (λ (p : Option ℕ). weight share + sum_by weight shares ≡ sum_by of_piece (filter (λ (piece : Piece). is_number piece.number p || holds_piece shares piece.number) all)) (sym e) (omega (arith, is, rest))
+        subst (λ (p : Option ℕ). weight share + sum_by weight shares ≡ sum_by of_piece (filter (λ
+        (piece : Piece). is_number piece.number p || holds_piece shares piece.number) all)) (sym e) (omega (arith, is, rest))
     by (Some number) e is rest = on (piece_of_share share) (piece_in all number) number e (head_apart share shares number apart e) refl is rest

@@ -1,8 +1,9 @@
 -- Of all answers of a group those of list 4 alone leave page files.
-use Rattle.std.proofs.Common.{◌≡◌, ℕ, ◌==◌, ◌⊎◌, Bool, true, false, ◌&&◌, ◌||◌, not, List, [], ◌∷◌, ◌++◌, map, length, reverse, refl, ap, subst, sym, ◌∙◌, Option, Some, None, inl, inr, ⊎_elim, append_assoc, append-nil, zero, suc}
-use Rattle.std.specs.Prelude.{cond, filter, flat_map, find, nat_le, nat_lt}
+use Rattle.std.proofs.Common.{◌≡◌, ℕ, ◌⊎◌, Bool, true, false, ◌&&◌, not, List, [], ◌∷◌, ◌++◌}
+use Rattle.std.proofs.Common.{map, length, reverse, refl, ap, ◌∙◌, Option, Some, None, ⊎_elim, zero, suc}
+use Rattle.std.specs.Prelude.{cond, filter, nat_le, nat_lt}
 use Rattle.std.specs.Option.{option_to_list, option_map}
-use Rattle.std.specs.List.{AllByRecursion, list_any}
+use Rattle.std.specs.List.{AllByRecursion}
 use Rattle.std.proofs.lemmas.List.Concat.{flat_map-append}
 use Rattle.blob_words.specs.declared.plan.Plan.{Plan}
 use Rattle.blob_words.specs.declared.plan.Plan.TheVariants as plans
@@ -10,50 +11,36 @@ use Rattle.blob_words.specs.declared.number.ReaderId.{ReaderId}
 use Rattle.blob_words.specs.declared.number.JobNo.{JobNo}
 use Rattle.blob_words.specs.declared.status.Status.{Status}
 use Rattle.blob_words.specs.declared.status.Status.TheVariants as statuses
-use Rattle.blob_words.specs.declared.tally.Tally.{Tally}
 use Rattle.session_script.specs.declared.event.Event.{Event}
 use Rattle.session_script.specs.declared.event.Event.TheVariants as events
 use Rattle.session_script.specs.declared.event.Part.{Part}
 use Rattle.answer_text.specs.declared.answer.Answer.{Answer}
 use Rattle.answer_text.specs.declared.answer.Answer.TheVariants as answers
 use Rattle.answer_text.specs.declared.refusal.Refusal.{Refusal}
-use Rattle.answer_text.specs.declared.group.Group.{Group}
 use Rattle.blob_model.specs.Session.{Session}
-use Rattle.blob_model.specs.History.{History, said, said_all, after, has_ended}
+use Rattle.blob_model.specs.History.{History, said, said_all}
 use Rattle.blob_model.specs.Builds.{Build, Cell, sent, filed, lent, builds, slice_parts}
 use Rattle.blob_model.specs.Pieces.{Piece, pieces, piece_with}
-use Rattle.blob_model.specs.Pages.{Place, in_memory, reserved, in_page, pages, place}
+use Rattle.blob_model.specs.Pages.{Place, in_memory, reserved, in_page, place}
 use Rattle.blob_model.specs.Jobs.{in_flight}
 use Rattle.blob_model.specs.Readers.{OpenReader, reader_at}
 use Rattle.blob_model.specs.Standing.{ended, is_unfinished}
-use Rattle.blob_model.specs.Tally.{tally, files, job_left, memory}
+use Rattle.blob_model.specs.Tally.{files, job_left, memory}
 use Rattle.blob_model.specs.Waits.{waits}
-use Rattle.blob_model.specs.Choice.{IsOneOf, first_that}
+use Rattle.blob_model.specs.Choice.{IsOneOf}
 use Rattle.blob_model.specs.Chunk.{left, chunk, file_of, first_failing, before_failing}
-use Rattle.blob_model.specs.Live.{live, is_live}
+use Rattle.blob_model.specs.Live.{is_live}
 use Rattle.blob_model.specs.Entries.{owns_entry}
 use Rattle.blob_model.specs.Construct.{build_answer, build_answer_by, line_status}
 use Rattle.blob_model.specs.Refusals.{refusal}
-use Rattle.blob_model.specs.Own.{IsOwn, IsOwnBy, IsAccepted, IsStep, IsStepBy, IsNext, IsRead, accepted, failing, stored_answers, unstored_answers, plan_in, job_done, job_failed, source_of, read_faults, cell_fault, page_fault, sent_fault}
-use Rattle.blob_model.specs.Settle.{drops, endings, endings_of, ending_answers, ending, ending_tests, removals, grants, grants_of, page_jobs, page_job_of, may_start, compactions, compaction, movable, settle, settle_by, is_due, IsSettled}
-use Rattle.blob_model.specs.Legal.{left_file, left_files, IsLegalGroup}
+use Rattle.blob_model.specs.Own.{IsOwn, IsOwnBy, IsAccepted, IsStep, IsStepBy, IsNext, IsRead, accepted, failing}
+use Rattle.blob_model.specs.Own.{stored_answers, unstored_answers, plan_in, job_done, job_failed, source_of, read_faults, cell_fault, page_fault, sent_fault}
+use Rattle.blob_model.specs.Settle.{drops, endings_of, ending_answers, ending_tests, grants_of}
+use Rattle.blob_model.specs.Settle.{page_jobs, page_job_of, may_start, compactions, compaction, movable}
+use Rattle.blob_model.specs.Legal.{left_file, left_files}
 use Rattle.blob_model.specs.Victims.{chosen}
 use Rattle.blob_model.proofs.settled.Endings.{some_that}
 use Rattle.blob_model.proofs.settled.Endings.{one_by}
-use Rattle.blob_model.proofs.settled.Groups.{own_first}
-use Rattle.blob_model.proofs.settled.Groups.{after_own}
-use Rattle.blob_model.proofs.live.Agreement.{said_append}
-use Rattle.blob_model.proofs.kept.Kept.{Kept}
-use Rattle.blob_model.proofs.kept.Groups.{kept_all}
-use Rattle.blob_model.proofs.kept.Groups.{kept_own}
-use Rattle.blob_model.proofs.settled.Settling.{settled_once}
-use Rattle.blob_model.proofs.settled.LateAnswers.{AllLate}
-use Rattle.blob_model.proofs.settled.LateAnswers.{all_late}
-use Rattle.blob_model.proofs.settled.LateAnswers.{live_late}
-use Rattle.blob_model.proofs.settled.Removals.{removals_late}
-use Rattle.blob_model.proofs.settled.GrantsAndJobs.{grants_late}
-use Rattle.blob_model.proofs.settled.GrantsAndJobs.{page_jobs_still}
-use Rattle.blob_model.proofs.settled.GrantsAndJobs.{compactions_still}
 
 -- ---- lists that leave no page file
 
@@ -65,27 +52,39 @@ leaves-append xs ys e f = flat_map-append left_file xs ys ∙ ap (λ (zs : List 
 
 one_leaves : (own : List Answer) (lists : List (List Answer)) → AllByRecursion LeavesNone lists → IsOneOf own lists → LeavesNone own
 one_leaves own [] all one = absurd one
-one_leaves own (list ∷ lists) all one = ⊎_elim (λ (here : own ≡ list). ap left_files here ∙ all.0) (λ (more : IsOneOf own lists). one_leaves own lists all.1 more) one
+one_leaves own (list ∷ lists) all one = ⊎_elim (λ (here : own ≡ list). ap left_files here ∙ all.0) (λ
+    (more : IsOneOf own lists). one_leaves own lists all.1 more) one
 
 named_leaves : {X : Type 0} (f : X → Answer) → ((x : X) → left_file (f x) ≡ []) → (xs : List X) → LeavesNone (map f xs)
 named_leaves f none [] = refl
 named_leaves f none (x ∷ xs) = ap (λ (zs : List ℕ). zs ++ left_files (map f xs)) (none x) ∙ named_leaves f none xs
 
 pub drops_leave : (s : Session) (h : History) → LeavesNone (drops s h)
-drops_leave s h = named_leaves (λ (build : Build). answers.Dropped build.name) (λ build. refl) (filter (λ (build : Build). is_unfinished h build.name && not (is_live s.limits.page h build.name)) (reverse (builds s.limits.page h)))
+drops_leave s h = named_leaves (λ (build : Build). answers.Dropped build.name) (λ build. refl) (filter (λ
+    (build : Build). is_unfinished h build.name && not (is_live s.limits.page h build.name)) (reverse (builds s.limits.page h)))
 
 pub endings_leave : (s : Session) (h : History) (list : List Build) → LeavesNone (endings_of s h list)
 endings_leave s h [] = refl
 endings_leave s h (build ∷ list) =
     leaves-append (ending_answers s h build) (endings_of s (said_all h (ending_answers s h build)) list)
-    (one_by s h build LeavesNone refl (λ answer e. some_that (λ (a : Answer). LeavesNone (a ∷ [])) (ending_tests s h build) answer (refl, (refl, (refl, (refl, tt)))) e))
+    (one_by s h build LeavesNone refl (λ answer e. some_that (λ (a : Answer). LeavesNone (a ∷ [])) (ending_tests s h build) answer (
+      refl,
+      (
+        refl,
+        (
+          refl,
+          (refl, tt),
+        ),
+      ),
+    ) e))
     (endings_leave s (said_all h (ending_answers s h build)) list)
 
 pub grants_leave : (s : Session) (h : History) (list : List Build) → LeavesNone (grants_of s h list)
 grants_leave s h [] = refl
 grants_leave s h (build ∷ list) = go (nat_le _ s.limits.memory) (grants_leave s (said h (answers.Granted build.name)) list)
   where
-    go : (b : Bool) → LeavesNone (grants_of s (said h (answers.Granted build.name)) list) → LeavesNone (cond b (answers.Granted build.name ∷ grants_of s (said h (answers.Granted build.name)) list) [])
+    go : (b : Bool) → LeavesNone (grants_of s (said h (answers.Granted build.name)) list) → LeavesNone (cond b (answers.Granted build.name ∷ grants_of s
+        (said h (answers.Granted build.name)) list) [])
     go true rest = rest
     go false rest = refl
 
@@ -153,38 +152,57 @@ faults_leave s h reader (cell ∷ cells) = all_append (cell_fault s h reader cel
     one (filed name stamp index) = tt
     one (lent slot index) = (refl, tt)
 
-read_leaves : (s : Session) (h : History) (reader : ReaderId) (cells : List Cell) (failing : Option Cell) (own : List Answer) → IsRead s h reader cells failing own → LeavesNone own
+read_leaves : (s : Session) (h : History) (reader : ReaderId) (cells : List Cell) (failing : Option Cell) (own : List Answer)
+    → IsRead s h reader cells failing own → LeavesNone own
 read_leaves s h reader cells None own read =
-    ⊎_elim (λ given. ap left_files given.1) (λ (fault : IsOneOf own (read_faults s h reader cells)). one_leaves own (read_faults s h reader cells) (faults_leave s h reader cells) fault) read
-read_leaves s h reader cells (Some cell) own read = one_leaves own ((answers.FileChanged reader (file_of cell) ∷ []) ∷ read_faults s h reader (before_failing h cells)) (refl, faults_leave s h reader (before_failing h cells)) read
+    ⊎_elim (λ given. ap left_files given.1) (λ (fault : IsOneOf own (read_faults s h reader cells)). one_leaves own (read_faults s h reader cells)
+    (faults_leave s h reader cells) fault) read
+read_leaves s h reader cells (Some cell) own read = one_leaves own ((answers.FileChanged reader (file_of cell) ∷ []) ∷ read_faults s h reader
+    (before_failing h cells)) (refl, faults_leave s h reader (before_failing h cells)) read
 
-next_leaves : (s : Session) (h : History) (reader : ReaderId) (open_reader : OpenReader) (n : ℕ) (own : List Answer) → IsNext s h reader open_reader n own → LeavesNone own
+next_leaves : (s : Session) (h : History) (reader : ReaderId) (open_reader : OpenReader) (n : ℕ) (own : List Answer) → IsNext s h reader open_reader n own
+    → LeavesNone own
 next_leaves s h reader open_reader zero own is = ap left_files is
-next_leaves s h reader open_reader (suc n) own is = read_leaves s h reader (chunk s.limits h open_reader) (first_failing h (chunk s.limits h open_reader)) own is
+next_leaves s h reader open_reader (suc n) own is = read_leaves s h reader (chunk s.limits h open_reader) (first_failing h
+    (chunk s.limits h open_reader)) own is
 
-step_by_leaves : (s : Session) (h : History) (reader : ReaderId) (open_reader : OpenReader) (status : Option Status) (own : List Answer) → IsStepBy s h reader open_reader status own → LeavesNone own
+step_by_leaves : (s : Session) (h : History) (reader : ReaderId) (open_reader : OpenReader) (status : Option Status) (own : List Answer)
+    → IsStepBy s h reader open_reader status own → LeavesNone own
 step_by_leaves s h reader open_reader None own is = ap left_files is
 step_by_leaves s h reader open_reader (Some statuses.Done) own is = next_leaves s h reader open_reader (left open_reader) own is
 step_by_leaves s h reader open_reader (Some status) own is = ap left_files is
 
-step_leaves : (s : Session) (h : History) (reader : ReaderId) (open_reader : Option OpenReader) (own : List Answer) → IsStep s h reader open_reader own → LeavesNone own
+step_leaves : (s : Session) (h : History) (reader : ReaderId) (open_reader : Option OpenReader) (own : List Answer) → IsStep s h reader open_reader own
+    → LeavesNone own
 step_leaves s h reader None own is = absurd is
 step_leaves s h reader (Some open_reader) own is = step_by_leaves s h reader open_reader (ended h open_reader.blob) own is
 
 accepted_leaves : (s : Session) (h : History) (event : Event) (own : List Answer) → IsAccepted s h event own → LeavesNone own
 accepted_leaves s h (events.Step reader) own is = step_leaves s h reader (reader_at s.limits.page h reader.0) own is
-accepted_leaves s h (events.Build renderer name kind parts) own is = one_leaves own ((build_answer s h renderer.0 name parts ∷ []) ∷ []) (build_leaves s h name parts (line_status s h renderer.0 name parts), tt) is
+accepted_leaves s h (events.Build renderer name kind parts) own is = one_leaves own ((build_answer s h renderer.0 name parts ∷ []) ∷ [])
+    (build_leaves s h name parts (line_status s h renderer.0 name parts), tt) is
 accepted_leaves s h (events.Slice renderer name source from to kind) own is =
-    let parts = slice_parts (builds s.limits.page h) source from to in one_leaves own ((build_answer s h renderer.0 name parts ∷ []) ∷ []) (build_leaves s h name parts (line_status s h renderer.0 name parts), tt) is
+    let parts = slice_parts (builds s.limits.page h) source from to in one_leaves own ((build_answer s h renderer.0 name parts ∷ []) ∷ [])
+    (build_leaves s h name parts (line_status s h renderer.0 name parts), tt) is
 accepted_leaves s h (events.Segment renderer b segment bytes) own is =
-    one_leaves own ((answers.Taken segment ∷ stored_answers s h b segment (plan_in s h b)) ∷ unstored_answers s h segment (plan_in s h b)) (stored_leaves s h b segment (plan_in s h b), unstored_leaves s h segment (plan_in s h b)) is
-accepted_leaves s h (events.Revoke renderer text) own is = one_leaves own (accepted s h (events.Revoke renderer text) ∷ []) (go (owns_entry h renderer.0 text), tt) is
+    one_leaves own ((answers.Taken segment ∷ stored_answers s h b segment (plan_in s h b)) ∷ unstored_answers s h segment (plan_in s h b))
+    (stored_leaves s h b segment (plan_in s h b), unstored_leaves s h segment (plan_in s h b)) is
+accepted_leaves s h (events.Revoke renderer text) own is = one_leaves own (accepted s h (events.Revoke renderer text) ∷ []) (
+  go
+      (owns_entry h renderer.0 text),
+  tt,
+) is
   where
     go : (b : Bool) → LeavesNone (cond b answers.Revoked answers.Nothing ∷ [])
     go true = refl
     go false = refl
 accepted_leaves s h (events.Disk job) own is =
-    one_leaves own ((job_done h job (source_of (in_flight h)) (job_left s.limits.page h) ∷ []) ∷ job_failed h job (source_of (in_flight h)) (job_left s.limits.page h)) (done_leaves h job (source_of (in_flight h)) (job_left s.limits.page h), failed_leaves h job (source_of (in_flight h)) (job_left s.limits.page h)) is
+    one_leaves own ((job_done h job (source_of (in_flight h)) (job_left s.limits.page h) ∷ []) ∷ job_failed h job (source_of (in_flight h))
+    (job_left s.limits.page h)) (
+      done_leaves h job (source_of (in_flight h)) (job_left s.limits.page h),
+      failed_leaves h job (source_of (in_flight h))
+          (job_left s.limits.page h),
+    ) is
 accepted_leaves s h event own is = one_leaves own (accepted s h event ∷ []) (refl, tt) is
 
 own_by_leaves : (s : Session) (h : History) (event : Event) (why : Option Refusal) (own : List Answer) → IsOwnBy s h event why own → LeavesNone own

@@ -15,7 +15,8 @@ pub mod Closing
 pub mod Sums
 pub mod Charges
 pub mod Tallies
-pub mod PageNumbers
+pub mod Resting
+pub mod Slots
 pub mod PageCharges
-pub mod DiskCharges
-pub mod JobCharges
+pub mod Agreeing
+pub mod PageNumbers

@@ -1,5 +1,6 @@
 -- Each own byte is of one piece: pieces of a blob stand end to end, and blobs differ in their names.
-use Rattle.std.proofs.Common.{◌≡◌, ℕ, ◌+◌, ◌≤◌, ◌<◌, ◌==◌, Bool, true, false, ◌&&◌, List, [], ◌∷◌, ◌++◌, length, refl, ap, subst, sym, ◌∙◌, arith, Option, Some, None}
+use Rattle.std.proofs.Common.{◌≡◌, ℕ, ◌+◌, ◌≤◌, ◌<◌, ◌==◌, Bool, true, false, ◌&&◌, List, []}
+use Rattle.std.proofs.Common.{◌∷◌, ◌++◌, length, refl, ap, subst, sym, ◌∙◌, arith, Option, Some, None}
 use Rattle.std.specs.Prelude.{cond, find, nat_le, nat_lt}
 use Rattle.std.specs.List.{AllByRecursion}
 use Rattle.std.proofs.lemmas.Bool.{and_parts, eqb-true, leb-true, ltb-true, false_from_ne_true}
@@ -28,29 +29,32 @@ AreStaggered (piece ∷ more) = AllByRecursion (IsBefore piece) more × AreStagg
 
 -- ---- the pieces of one blob
 
-numbered_above : (blob number from to : ℕ) (spans : List (ℕ × ℕ)) → IsEndToEnd from spans to → AllByRecursion (λ (piece : Piece). from ≤ piece.from) (numbered blob number spans)
+numbered_above : (blob number from to : ℕ) (spans : List (ℕ × ℕ)) → IsEndToEnd from spans to
+    → AllByRecursion (λ (piece : Piece). from ≤ piece.from) (numbered blob number spans)
 numbered_above blob number from to [] whole = tt
 numbered_above blob number from to (span ∷ spans) whole =
-    let here = whole.0 in
-    (
+    let here = whole.0 in (
       omega (arith, here),
-      for_each (λ (piece : Piece). from + span.1 ≤ piece.from) (λ (piece : Piece). from ≤ piece.from) (numbered blob (number + 1) spans) (λ piece low. omega (arith, low))
+      for_each (λ (piece : Piece). from + span.1 ≤ piece.from) (λ (piece : Piece). from ≤ piece.from) (numbered blob (number + 1) spans)
+          (λ piece low. omega (arith, low))
           (numbered_above blob (number + 1) (from + span.1) to spans whole.2),
     )
 
 numbered_staggered : (blob number from to : ℕ) (spans : List (ℕ × ℕ)) → IsEndToEnd from spans to → AreStaggered (numbered blob number spans)
 numbered_staggered blob number from to [] whole = tt
 numbered_staggered blob number from to (span ∷ spans) whole =
-    let here = whole.0 in
-    (
-      for_each (λ (piece : Piece). from + span.1 ≤ piece.from) (λ (piece : Piece). blob ≡ piece.blob → span.0 + span.1 ≤ piece.from) (numbered blob (number + 1) spans) (λ piece low same. omega (arith, low, here))
+    let here = whole.0 in (
+      for_each (λ (piece : Piece). from + span.1 ≤ piece.from) (λ (piece : Piece). blob ≡ piece.blob
+          → span.0 + span.1 ≤ piece.from) (numbered blob (number + 1) spans) (λ piece low same. omega (arith, low, here))
           (numbered_above blob (number + 1) (from + span.1) to spans whole.2),
       numbered_staggered blob (number + 1) (from + span.1) to spans whole.2,
     )
 
-spans_staggered : (l : Limits) (build : Build) (number : ℕ) (plan : Option Plan) → build.plan ≡ plan → AreStaggered (numbered build.name number (spans_of l.page build))
+spans_staggered : (l : Limits) (build : Build) (number : ℕ) (plan : Option Plan) → build.plan ≡ plan
+    → AreStaggered (numbered build.name number (spans_of l.page build))
 spans_staggered l build number None e = subst (λ (plan : Option Plan). AreStaggered (numbered build.name number (planned_spans l.page build plan))) (sym e) tt
-spans_staggered l build number (Some plan) e = numbered_staggered build.name number 0 (own_bytes build.parts) (spans_of l.page build) (cover_pieces l build plan e)
+spans_staggered l build number (Some plan) e = numbered_staggered build.name number 0 (own_bytes build.parts) (spans_of l.page build)
+    (cover_pieces l build plan e)
 
 -- ---- those of several
 
@@ -58,7 +62,8 @@ append_all : {X : Type 0} (P : X → Type 0) (xs ys : List X) → AllByRecursion
 append_all P [] ys p q = q
 append_all P (x ∷ xs) ys p q = (p.0, append_all P xs ys p.1 q)
 
-staggered_append : (xs ys : List Piece) → AreStaggered xs → AreStaggered ys → AllByRecursion (λ (piece : Piece). AllByRecursion (IsBefore piece) ys) xs → AreStaggered (xs ++ ys)
+staggered_append : (xs ys : List Piece) → AreStaggered xs → AreStaggered ys → AllByRecursion (λ (piece : Piece). AllByRecursion (IsBefore piece) ys) xs
+    → AreStaggered (xs ++ ys)
 staggered_append [] ys one two apart = two
 staggered_append (piece ∷ xs) ys one two apart = (append_all (IsBefore piece) xs ys one.0 apart.0, staggered_append xs ys one.1 two apart.1)
 
@@ -73,7 +78,8 @@ pieces_staggered l number (build ∷ list) distinct =
     (pieces_named l.page (number + length (spans_of l.page build)) list) in
     staggered_append mine others (spans_staggered l build number build.plan refl) (pieces_staggered l (number + length (spans_of l.page build)) list distinct.1)
     (
-    for_each (λ (piece : Piece). AllByRecursion (λ (other : Piece). piece.blob ≡ other.blob → ⊥) others) (λ (piece : Piece). AllByRecursion (IsBefore piece) others) mine
+    for_each (λ (piece : Piece). AllByRecursion (λ (other : Piece). piece.blob ≡ other.blob
+    → ⊥) others) (λ (piece : Piece). AllByRecursion (IsBefore piece) others) mine
     (λ piece none. for_each (λ (other : Piece). piece.blob ≡ other.blob → ⊥) (IsBefore piece) others (λ other f same. absurd (f same)) none)
     (numbered_named (λ (blob : ℕ). AllByRecursion (λ (other : Piece). blob ≡ other.blob → ⊥) others) build.name number (spans_of l.page build) apart)
     )
@@ -100,25 +106,26 @@ IsOwner list piece = (cell : Cell) → owns piece cell ≡ true → piece_with l
 
 pub owners : (list : List Piece) → AreStaggered list → AllByRecursion (IsOwner list) list
 owners [] staggered = tt
-owners (piece ∷ list) staggered =
-    (
-      (λ cell e. ap (λ (b : Bool). cond b (Some piece) (piece_with list cell)) e),
-      both_all (IsBefore piece) (IsOwner list) (IsOwner (piece ∷ list)) list later staggered.0 (owners list staggered.1),
-    )
+owners (piece ∷ list) staggered = (
+  (λ cell e. ap (λ (b : Bool). cond b (Some piece) (piece_with list cell)) e),
+  both_all (IsBefore piece) (IsOwner list) (IsOwner (piece ∷ list)) list later staggered.0 (owners list staggered.1),
+)
   where
     both_all : {X : Type 0} (P Q R : X → Type 0) (xs : List X) → ((x : X) → P x → Q x → R x) → AllByRecursion P xs → AllByRecursion Q xs → AllByRecursion R xs
     both_all P Q R [] f p q = tt
     both_all P Q R (x ∷ xs) f p q = (f x p.0 q.0, both_all P Q R xs f p.1 q.1)
 
     later : (other : Piece) → IsBefore piece other → IsOwner list other → IsOwner (piece ∷ list) other
-    later other before owner (sent blob index) e = ap (λ (b : Bool). cond b (Some piece) (piece_with list (sent blob index))) (owns_none piece other blob index before e) ∙ owner (sent blob index) e
+    later other before owner (sent blob index) e = ap (λ (b : Bool). cond b (Some piece) (piece_with list (sent blob index)))
+        (owns_none piece other blob index before e) ∙ owner (sent blob index) e
     later other before owner (filed name stamp index) e = absurd (false_true e)
     later other before owner (lent slot index) e = absurd (false_true e)
 
 -- ---- two pieces that own a byte are one
 
 pub one_owner : (l : Limits) (list : List Build) (one other : Piece) (cell : Cell) → Distinct list
-    → find (λ (each : Piece). each.number == one.number) (pieces_from l.page 0 list) ≡ Some one → find (λ (each : Piece). each.number == other.number) (pieces_from l.page 0 list) ≡ Some other
+    → find (λ (each : Piece). each.number == one.number) (pieces_from l.page 0 list) ≡ Some one
+    → find (λ (each : Piece). each.number == other.number) (pieces_from l.page 0 list) ≡ Some other
     → owns one cell ≡ true → owns other cell ≡ true → one ≡ other
 one_owner l list one other cell distinct at beside e f =
     let all = pieces_from l.page 0 list in

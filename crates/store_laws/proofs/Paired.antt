@@ -1,9 +1,10 @@
 -- Blobs beside their entries: who stands, how each stands, and that sources stand before.
-use Rattle.std.proofs.Common.{◌≡◌, ℕ, ◌+◌, ◌==◌, ◌⊎◌, Bool, true, false, ◌&&◌, ◌||◌, not, List, [], ◌∷◌, ◌++◌, map, refl, ap, subst, sym, ◌∙◌, Option, Some, None, inl, inr, ⊎_elim, cond}
-use Rattle.std.specs.Prelude.{filter, is_some, is_none, unwrap_or, IfSome, IsSomeAnd}
+use Rattle.std.proofs.Common.{◌≡◌, ℕ, ◌+◌, ◌==◌, ◌⊎◌, Bool, true, false, ◌&&◌, ◌||◌, not, List, []}
+use Rattle.std.proofs.Common.{◌∷◌, ◌++◌, map, refl, ap, sym, ◌∙◌, Option, Some, None, inl, inr, ⊎_elim, cond}
+use Rattle.std.specs.Prelude.{filter, is_some, is_none, unwrap_or, IfSome}
 use Rattle.std.specs.Option.{option_map, option_map_or}
 use Rattle.std.specs.List.{AllByRecursion, list_any}
-use Rattle.std.proofs.lemmas.Bool.{and_parts, eqb-true, eq-eqb}
+use Rattle.std.proofs.lemmas.Bool.{eqb-true, eq-eqb}
 use Rattle.std.proofs.lemmas.List.Folds.{list_any-append}
 use Rattle.blob_words.specs.declared.status.Status.{Status}
 use Rattle.blob_words.specs.declared.status.Status.TheVariants as statuses
@@ -12,7 +13,7 @@ use Rattle.blob_entries.specs.declared.entry.Entry.{Entry}
 use Rattle.blob_entries.specs.Statuses.{is_broken, is_pending}
 use Rattle.blob_model.specs.Session.{Session}
 use Rattle.blob_model.specs.History.{History}
-use Rattle.blob_model.specs.Builds.{Build, builds, build_in, cells_in}
+use Rattle.blob_model.specs.Builds.{Build, build_in}
 use Rattle.blob_model.specs.Live.{has_source, is_live}
 use Rattle.blob_model.specs.Order.{AreOrdered, Distinct, named}
 use Rattle.blob_model.specs.Own.{pending_status}
@@ -22,10 +23,9 @@ use Rattle.blob_model.specs.Transport.{has_all}
 use Rattle.blob_model.specs.Waits.{is_waiting}
 use Rattle.blob_model.proofs.Lists.{both, false_true, or_cases, or_first, or_second}
 use Rattle.blob_model.proofs.builds.Order.{all_found}
-use Rattle.registry_laws.specs.Agree.{Beside, source_names}
-use Rattle.store_laws.specs.Having.{AreClosed, is_unbroken, paired, takes_from}
-use Rattle.store_laws.specs.Outlines.{Outline, outline, outline_of, outlines, outlines_of, status_now}
-use Rattle.store_laws.specs.ReachLaws.{IsAtRest}
+use Rattle.registry_laws.specs.Agree.{Beside}
+use Rattle.store_laws.specs.Having.{AreClosed, is_unbroken, paired}
+use Rattle.store_laws.specs.Outlines.{Outline, outline, outline_of, status_now}
 use Rattle.store_laws.specs.Recipes.{EntryStands, IsEntryFor}
 
 -- ---- who stands
@@ -46,7 +46,8 @@ module _ (s : Session) (h : History) (stands : ℕ → Bool) where
       → option_map outline held ≡ outline_at s h stands build
   first_of build list held entries e = cc
 
-  pub rest_of : (build : Build) (list : List Build) (held : Option Entry) (entries : List (Option Entry)) → AreOutlined s h stands (build ∷ list) (held ∷ entries)
+  pub rest_of : (build : Build) (list : List Build) (held : Option Entry) (entries : List (Option Entry))
+      → AreOutlined s h stands (build ∷ list) (held ∷ entries)
       → AreOutlined s h stands list entries
   rest_of build list held entries e = cc
 
@@ -55,22 +56,25 @@ module _ (s : Session) (h : History) (stands : ℕ → Bool) where
       → (stands build.name ≡ false → goal None) → ((entry : Entry) → IsTold s h stands (build, entry) → goal (Some entry)) → goal held
   by_first goal build held e none some = go held (stands build.name) refl e
     where
-      go : (held : Option Entry) (b : Bool) → stands build.name ≡ b → option_map outline held ≡ cond (stands build.name) (Some (outline_of s h build)) None → goal held
+      go : (held : Option Entry) (b : Bool) → stands build.name ≡ b → option_map outline held ≡ cond (stands build.name) (Some
+          (outline_of s h build)) None → goal held
       go None false at e = none at
       go None true at e =
           let f : option_map outline None ≡ Some (outline_of s h build) = e ∙ ap (λ (b : Bool). cond b (Some (outline_of s h build)) None) at in absurd (cc f)
       go (Some entry) true at e =
           let f : Some (outline entry) ≡ Some (outline_of s h build) = e ∙ ap (λ (b : Bool). cond b (Some (outline_of s h build)) None) at in
-          some entry (record { standing = at; outline_is = cc; })
+          some entry (record { standing = at; outline_is = cc })
       go (Some entry) false at e =
           let f : Some (outline entry) ≡ None = e ∙ ap (λ (b : Bool). cond b (Some (outline_of s h build)) None) at in absurd (cc f)
 
   -- each entry is told
-  pub told_pairs : (list : List Build) (entries : List (Option Entry)) → AreOutlined s h stands list entries → AllByRecursion (IsTold s h stands) (paired list entries)
+  pub told_pairs : (list : List Build) (entries : List (Option Entry)) → AreOutlined s h stands list entries
+      → AllByRecursion (IsTold s h stands) (paired list entries)
   told_pairs [] entries e = tt
   told_pairs (build ∷ list) [] e = tt
   told_pairs (build ∷ list) (held ∷ entries) e =
-      by_first (λ (one : Option Entry). AllByRecursion (IsTold s h stands) (paired (build ∷ list) (one ∷ entries))) build held (first_of build list held entries e)
+      by_first (λ (one : Option Entry). AllByRecursion (IsTold s h stands) (paired (build ∷ list) (one ∷ entries))) build held
+      (first_of build list held entries e)
       (λ off. told_pairs list entries (rest_of build list held entries e))
       (λ entry told. (told, told_pairs list entries (rest_of build list held entries e)))
 
@@ -91,12 +95,14 @@ module _ (s : Session) (h : History) (stands : ℕ → Bool) where
       rest ∙ sym (ap (λ (b : Bool). cond b (build ∷ filter (λ (each : Build). stands each.name) list) (filter (λ (each : Build). stands each.name) list)) off))
       (λ entry told.
       ap (λ (xs : List Build). build ∷ xs) rest
-      ∙ sym (ap (λ (b : Bool). cond b (build ∷ filter (λ (each : Build). stands each.name) list) (filter (λ (each : Build). stands each.name) list)) told.standing))
+      ∙ sym (ap (λ (b : Bool). cond b (build ∷ filter (λ (each : Build). stands each.name) list) (filter (λ
+      (each : Build). stands each.name) list)) told.standing))
 
 -- ---- what is said of blobs and of entries beside them
 
 pub fine_pairs : (whole : List Build) (all : List Piece) (shares : List (Option Share)) (own : ℕ → List ℕ) (list : List Build) (entries : List (Option Entry))
-    → Beside (EntryStands whole all shares own) list entries → AllByRecursion (λ (pair : Build × Entry). IsEntryFor whole all shares own pair.0 pair.1) (paired list entries)
+    → Beside (EntryStands whole all shares own) list entries → AllByRecursion (λ (pair : Build × Entry). IsEntryFor whole all shares own pair.0 pair.1)
+    (paired list entries)
 fine_pairs whole all shares own [] entries beside = tt
 fine_pairs whole all shares own (build ∷ list) [] beside = tt
 fine_pairs whole all shares own (build ∷ list) (None ∷ entries) beside = fine_pairs whole all shares own list entries beside.1
@@ -167,8 +173,9 @@ pending_now s h build apart = go (ended h build.name) apart
 
 -- ---- sources stand before
 
-module _ (s : Session) (h : History) (stands : ℕ → Bool) (exact : (name : ℕ) → stands name ≡ is_live s.limits.page h name) (whole : List Build) (all : List Piece)
-  (shares : List (Option Share)) (own : ℕ → List ℕ) (ends : (name : ℕ) → IfSome (ended h name) (λ (status : Status). is_pending status ≡ false)) where
+module _ (s : Session) (h : History) (stands : ℕ → Bool) (exact : (name : ℕ) → stands name ≡ is_live s.limits.page h name) (whole : List Build)
+    (all : List Piece)
+    (shares : List (Option Share)) (own : ℕ → List ℕ) (ends : (name : ℕ) → IfSome (ended h name) (λ (status : Status). is_pending status ≡ false)) where
   abbrev Sourced : Build → Type 0
   Sourced build =
       is_live s.limits.page h build.name ≡ true → is_unfinished h build.name ≡ true → (source : ℕ) → has_source build source ≡ true
@@ -185,26 +192,32 @@ module _ (s : Session) (h : History) (stands : ℕ → Bool) (exact : (name : �
       go true at = refl
       go false at = absurd (false_true (sym (broke at) ∙ begun))
 
-  before_last : (earlier : List Build) (build : Build) (name : ℕ) → named name (earlier ++ build ∷ []) ≡ true → (named name earlier ≡ true) ⊎ (build.name ≡ name)
+  before_last : (earlier : List Build) (build : Build) (name : ℕ) → named name (earlier ++ build ∷ []) ≡ true
+      → (named name earlier ≡ true) ⊎ (build.name ≡ name)
   before_last earlier build name there =
       ⊎_elim (λ (old : named name earlier ≡ true). inl old)
       (λ (new : ((build.name == name) || false) ≡ true).
-      ⊎_elim (λ (is : (build.name == name) ≡ true). inr (eqb-true build.name name is)) (λ (no_more : false ≡ true). absurd (false_true no_more)) (or_cases (build.name == name) false new))
+      ⊎_elim (λ (is : (build.name == name) ≡ true). inr (eqb-true build.name name is)) (λ (no_more : false ≡ true). absurd (false_true no_more)) (or_cases
+      (build.name == name) false new))
       (or_cases (named name earlier) ((build.name == name) || false) (sym (list_any-append (λ (each : Build). each.name == name) earlier (build ∷ [])) ∙ there))
 
   pub closed_pairs : (earlier list : List Build) (entries : List (Option Entry)) (known : ℕ → Bool) → AreOrdered earlier list
       → AllByRecursion (λ (build : Build). is_some build.plan ≡ false → is_unfinished h build.name ≡ false) list → AllByRecursion Sourced list
-      → AreOutlined s h stands list entries → Beside (EntryStands whole all shares own) list entries → Knows earlier known → AreClosed known (paired list entries)
+      → AreOutlined s h stands list entries → Beside (EntryStands whole all shares own) list entries → Knows earlier known
+      → AreClosed known (paired list entries)
   closed_pairs earlier [] entries known ordered broke sourced e beside knows = tt
   closed_pairs earlier (build ∷ list) [] known ordered broke sourced e beside knows = tt
   closed_pairs earlier (build ∷ list) (held ∷ entries) known ordered broke sourced e beside knows =
       by_first s h stands
       (λ (one : Option Entry). EntryStands whole all shares own build one → AreClosed known (paired (build ∷ list) (one ∷ entries))) build held
       (first_of s h stands build list held entries e)
-      (none (λ next f. closed_pairs (earlier ++ build ∷ []) list entries next ordered.2 broke.1 sourced.1 (rest_of s h stands build list held entries e) beside.1 f))
-      (some (λ next f. closed_pairs (earlier ++ build ∷ []) list entries next ordered.2 broke.1 sourced.1 (rest_of s h stands build list held entries e) beside.1 f)) beside.0
+      (none (λ next f. closed_pairs (earlier ++ build ∷ []) list entries next ordered.2 broke.1 sourced.1
+      (rest_of s h stands build list held entries e) beside.1 f))
+      (some (λ next f. closed_pairs (earlier ++ build ∷ []) list entries next ordered.2 broke.1 sourced.1
+      (rest_of s h stands build list held entries e) beside.1 f)) beside.0
     where
-      none : ((next : ℕ → Bool) → Knows (earlier ++ build ∷ []) next → AreClosed next (paired list entries)) → stands build.name ≡ false → Unit {0} → AreClosed known (paired list entries)
+      none : ((next : ℕ → Bool) → Knows (earlier ++ build ∷ []) next → AreClosed next (paired list entries)) → stands build.name ≡ false → Unit {0}
+          → AreClosed known (paired list entries)
       none later off fine =
           later known
           (λ name there live whole.
@@ -212,21 +225,22 @@ module _ (s : Session) (h : History) (stands : ℕ → Bool) (exact : (name : �
           (λ (is : build.name ≡ name).
           absurd (false_true (sym off ∙ exact build.name ∙ ap (is_live s.limits.page h) is ∙ live))) (before_last earlier build name there))
 
-      some : ((next : ℕ → Bool) → Knows (earlier ++ build ∷ []) next → AreClosed next (paired list entries)) → (entry : Entry) → IsTold s h stands (build, entry) → IsEntryFor whole all shares own build entry → AreClosed known ((build, entry) ∷ paired list entries)
+      some : ((next : ℕ → Bool) → Knows (earlier ++ build ∷ []) next → AreClosed next (paired list entries)) → (entry : Entry)
+          → IsTold s h stands (build, entry) → IsEntryFor whole all shares own build entry → AreClosed known ((build, entry) ∷ paired list entries)
       some later entry told fine =
-          let status_is : entry.status ≡ status_now s h build = ap (λ (o : Outline). o.status) told.outline_is in
-          (
+          let status_is : entry.status ≡ status_now s h build = ap (λ (o : Outline). o.status) told.outline_is in (
             (λ name pending takes.
-            let begun : is_unfinished h build.name ≡ true = sym (pending_now s h build (ends build.name)) ∙ ap is_pending (sym status_is) ∙ pending in
-            let has : has_source build name ≡ true = sym (ap (list_any (λ (source : ℕ). source == name)) (fine.sources pending)) ∙ takes in
-            let source = sourced.0 (sym (exact build.name) ∙ told.standing) begun name has in
-            knows name (ordered.1 name (planned build broke.0 begun) has) source.0 source.1),
+                let begun : is_unfinished h build.name ≡ true = sym (pending_now s h build (ends build.name)) ∙ ap is_pending (sym status_is) ∙ pending in
+                let has : has_source build name ≡ true = sym (ap (list_any (λ (source : ℕ). source == name)) (fine.sources pending)) ∙ takes in
+                let source = sourced.0 (sym (exact build.name) ∙ told.standing) begun name has in
+                knows name (ordered.1 name (planned build broke.0 begun) has) source.0 source.1),
             later (λ (name : ℕ). known name || (is_unbroken entry.status && build.name == name))
                 (λ name there live whole.
                 ⊎_elim (λ (old : named name earlier ≡ true). or_first (known name) (is_unbroken entry.status && build.name == name) (knows name old live whole))
                 (λ (is : build.name ≡ name).
                 let sound : is_unbroken entry.status ≡ true =
                 ap is_unbroken status_is ∙ ap not (broken_now s h build ∙ ap (is_broken_now h) is ∙ whole) in
-                or_second (known name) (is_unbroken entry.status && build.name == name) (both (is_unbroken entry.status) (build.name == name) sound (eq-eqb build.name name is)))
+                or_second (known name) (is_unbroken entry.status && build.name == name) (both (is_unbroken entry.status) (build.name == name) sound
+                (eq-eqb build.name name is)))
                 (before_last earlier build name there)),
           )

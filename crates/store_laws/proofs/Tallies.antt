@@ -1,18 +1,16 @@
 -- What is charged for items and for what is gathered is what the reached pieces are charged.
-use Rattle.std.proofs.Common.{◌≡◌, ℕ, ◌+◌, Bool, true, false, ◌||◌, List, [], refl, ap, sym, ◌∙◌, arith, Option, cond}
+use Rattle.std.proofs.Common.{◌≡◌, ℕ, ◌+◌, Bool, true, false, List, [], ap, sym, ◌∙◌, arith, Option, cond}
 use Rattle.std.specs.Prelude.{filter, sum_by}
-use Rattle.std.specs.List.{AllByRecursion}
 use Rattle.item_shares.specs.declared.shares.Share.{Share}
 use Rattle.item_shares.specs.Weights.{weights}
 use Rattle.blob_entries.specs.Book.{Book}
 use Rattle.blob_model.specs.Session.{Session}
 use Rattle.blob_model.specs.History.{History}
 use Rattle.blob_model.specs.Builds.{Build, builds}
-use Rattle.blob_model.specs.Order.{Distinct}
 use Rattle.blob_model.specs.Pages.{Place, is_memory, is_reserved, place}
 use Rattle.blob_model.specs.Pieces.{Piece, pieces}
 use Rattle.blob_model.specs.Reached.{reached}
-use Rattle.blob_model.specs.Tally.{bytes_of, memory, memory_of, reserved_of}
+use Rattle.blob_model.specs.Tally.{bytes_of, memory, reserved_of}
 use Rattle.blob_model.proofs.Lists.{for_each}
 use Rattle.blob_model.proofs.builds.Order.{ordered_distinct}
 use Rattle.page_files.specs.Files.{Files}
@@ -21,15 +19,17 @@ use Rattle.store_laws.specs.Items.{Facts, holds_piece}
 use Rattle.store_laws.specs.ReachLaws.{AreGatheredApart, IsApart, IsAtRest, IsCounted}
 use Rattle.store_laws.specs.Rows.{Row, gathered, is_gathered}
 use Rattle.store_laws.specs.Stands.{AreExact, ContentsStand}
-use Rattle.store_laws.specs.Uses.{facts_of, held_pieces, is_held}
+use Rattle.store_laws.specs.Uses.{facts_of}
 use Rattle.store_laws.specs.Weights.{memory_bytes, memory_weight, reserved_bytes, reserved_weight}
 use Rattle.store_laws.proofs.Charges.{gathered_held, memory_held, reserved_held}
 use Rattle.store_laws.proofs.Closing.{held_reached}
 use Rattle.store_laws.proofs.Sums.{sum-each, sum-either, sum-none, sum-passing}
 
-module _ (s : Session) (h : History) (stands : ℕ → Bool) (book : Book) (shares : List (Option Share)) (rows : List (Option Row)) (quota : Queue) (files : Files) (order : List (ℕ × ℕ))
-  (contents : ContentsStand s h stands book shares rows quota files order) (exact : AreExact s h stands) (rest : IsAtRest s.limits.page h) (counted : IsCounted book shares rows)
-  (apart : AreGatheredApart s h shares rows) where
+module _ (s : Session) (h : History) (stands : ℕ → Bool) (book : Book) (shares : List (Option Share)) (rows : List (Option Row)) (quota : Queue)
+    (files : Files) (order : List (ℕ × ℕ))
+    (contents : ContentsStand s h stands book shares rows quota files order) (exact : AreExact s h stands) (rest : IsAtRest s.limits.page h)
+    (counted : IsCounted book shares rows)
+    (apart : AreGatheredApart s h shares rows) where
   abbrev whole : List Build
   whole = builds s.limits.page h
 

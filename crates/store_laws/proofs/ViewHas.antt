@@ -1,5 +1,5 @@
 -- An unbroken entry with a view on the item of a piece has the piece, and an entry that has it is held there, or its bytes are to come.
-use Rattle.std.proofs.Common.{◌≡◌, ℕ, ◌==◌, ◌<◌, ◌⊎◌, Bool, true, false, ◌||◌, List, [], ◌∷◌, ◌++◌, refl, ap, sym, ◌∙◌, arith, Option, None, inl, inr, ⊎_elim}
+use Rattle.std.proofs.Common.{◌≡◌, ℕ, ◌==◌, ◌⊎◌, Bool, true, false, ◌||◌, List, [], ◌∷◌, ◌++◌, refl, ap, sym, ◌∙◌, arith, Option, None, inl, inr, ⊎_elim}
 use Rattle.std.specs.Prelude.{flat_map}
 use Rattle.std.specs.List.{AllByRecursion, list_any}
 use Rattle.std.proofs.lemmas.List.Folds.{list_any-append}
@@ -17,10 +17,9 @@ use Rattle.blob_entries.specs.declared.step.Step.TheVariants.{Own, Fixed, Source
 use Rattle.blob_model.specs.Builds.{Build}
 use Rattle.blob_model.specs.Order.{Distinct}
 use Rattle.blob_model.specs.Pieces.{Piece, owns, pieces_from}
-use Rattle.blob_model.proofs.Lists.{append_second, false_true, or_cases, or_first, or_second}
+use Rattle.blob_model.proofs.Lists.{append_second, false_true, or_cases}
 use Rattle.blob_model.proofs.builds.PieceNumbers.{FoundIn}
-use Rattle.store_laws.specs.Cells.{denoted}
-use Rattle.store_laws.specs.Items.{holds_piece, is_number, IsInside, piece_at}
+use Rattle.store_laws.specs.Items.{holds_piece, is_number, IsInside}
 use Rattle.store_laws.specs.Having.{has_by, is_on, is_own_step}
 use Rattle.store_laws.specs.Recipes.{own_cells, own_step_cells, StandsFor, IsStep, IsEntryFor}
 use Rattle.store_laws.proofs.HeldCounts.{back_views}
@@ -41,11 +40,12 @@ fixed-none all shares number (Fixed view ∷ recipe) sound =
     ∙ fixed-none all shares number recipe sound.1
 
 module _ (l : Limits) (list : List Build) (distinct : Distinct list) (piece : Piece) (found : FoundIn (pieces_from l.page 0 list) piece.number piece)
-  (shares : List (Option Share)) (own : ℕ → List ℕ) where
+    (shares : List (Option Share)) (own : ℕ → List ℕ) where
   abbrev all : List Piece
   all = pieces_from l.page 0 list
 
-  pub step_any : (number : PieceNo) (len : ℕ) → IsStep all shares (Own number len) → list_any (owns piece) (own_cells all number.0 len) ≡ (number.0 == piece.number)
+  pub step_any : (number : PieceNo) (len : ℕ) → IsStep all shares (Own number len) → list_any (owns piece) (own_cells all number.0 len) ≡
+      (number.0 == piece.number)
   step_any number len sound = piece_any l list distinct piece found number.0 _ len 0 len refl sound.1 sound.0 (omega arith)
 
   own_as : (recipe : List Step) → AllByRecursion (IsStep all shares) recipe
@@ -75,8 +75,10 @@ module _ (l : Limits) (list : List Build) (distinct : Distinct list) (piece : Pi
       let brought = own_views entry.own in
       ⊎_elim
       (λ (front : list_any (is_on shares piece.number) (fixed ++ brought) ≡ true).
-      ⊎_elim (λ (step : list_any (is_on shares piece.number) fixed ≡ true). inr (inl step)) (λ (back : list_any (is_on shares piece.number) brought ≡ true). inr (inr back))
-      (or_cases (list_any (is_on shares piece.number) fixed) (list_any (is_on shares piece.number) brought) (sym (list_any-append (is_on shares piece.number) fixed brought) ∙ front)))
+      ⊎_elim (λ (step : list_any (is_on shares piece.number) fixed ≡ true). inr (inl step)) (λ (back : list_any
+      (is_on shares piece.number) brought ≡ true). inr (inr back))
+      (or_cases (list_any (is_on shares piece.number) fixed) (list_any (is_on shares piece.number) brought) (sym (list_any-append
+      (is_on shares piece.number) fixed brought) ∙ front)))
       (λ (done : list_any (is_on shares piece.number) entry.views ≡ true). inl done)
       (or_cases (list_any (is_on shares piece.number) (fixed ++ brought)) (list_any (is_on shares piece.number) entry.views)
       (sym (list_any-append (is_on shares piece.number) (fixed ++ brought) entry.views) ∙ e))
@@ -87,13 +89,16 @@ module _ (l : Limits) (list : List Build) (distinct : Distinct list) (piece : Pi
   none_brought : (brought : Option (List View)) → brought ≡ None → list_any (is_on shares piece.number) (own_views brought) ≡ true → ⊥
   none_brought brought none e = none_of (own_views brought) (ap own_views none) e
 
-  no_fixed : (build : Build) (entry : Entry) → IsEntryFor list all shares own build entry → list_any (is_on shares piece.number) (fixed_views entry.recipe) ≡ true → ⊥
+  no_fixed : (build : Build) (entry : Entry) → IsEntryFor list all shares own build entry → list_any (is_on shares piece.number)
+      (fixed_views entry.recipe) ≡ true → ⊥
   no_fixed build entry fine e = false_true (sym (fixed-none all shares piece.number entry.recipe fine.steps) ∙ e)
 
-  by_status : (build : Build) (entry : Entry) (status : Status) → IsEntryFor list all shares own build entry → StandsFor list all shares build.cells status entry
+  by_status : (build : Build) (entry : Entry) (status : Status) → IsEntryFor list all shares own build entry
+      → StandsFor list all shares build.cells status entry
       → is_broken status ≡ false → Parted entry → has_by (is_on shares piece.number) (is_own_step piece.number) status entry ≡ true
   by_status build entry statuses.Done fine stands whole viewed =
-      ⊎_elim (λ done. done) (λ rest. ⊎_elim (λ step. absurd (no_fixed build entry fine step)) (λ back. absurd (none_brought entry.own stands.2 back)) rest) viewed
+      ⊎_elim (λ done. done) (λ rest. ⊎_elim (λ step. absurd (no_fixed build entry fine step)) (λ back. absurd
+      (none_brought entry.own stands.2 back)) rest) viewed
   by_status build entry statuses.PendingQuota fine stands whole viewed =
       ⊎_elim (λ done. absurd (none_of entry.views stands.1 done))
       (λ rest. ⊎_elim (λ step. absurd (no_fixed build entry fine step)) (λ back. absurd (none_brought entry.own stands.2 back)) rest) viewed
@@ -115,7 +120,8 @@ module _ (l : Limits) (list : List Build) (distinct : Distinct list) (piece : Pi
   view_has build entry fine whole e = by_status build entry entry.status fine fine.stands whole (parted entry e)
 
   -- what holds of a piece that waits, or is on its way, the caller says
-  has_held_by : (goal : Type 0) (build : Build) (entry : Entry) (status : Status) → IsEntryFor list all shares own build entry → StandsFor list all shares build.cells status entry
+  has_held_by : (goal : Type 0) (build : Build) (entry : Entry) (status : Status) → IsEntryFor list all shares own build entry
+      → StandsFor list all shares build.cells status entry
       → (holds_piece shares piece.number ≡ true → goal) → (status ≡ statuses.PendingQuota → list_any (is_own_step piece.number) entry.recipe ≡ true → goal)
       → (status ≡ statuses.PendingTransport → list_any (is_own_step piece.number) entry.recipe ≡ true → goal)
       → has_by (is_on shares piece.number) (is_own_step piece.number) status entry ≡ true → goal
@@ -126,11 +132,13 @@ module _ (l : Limits) (list : List Build) (distinct : Distinct list) (piece : Pi
       let brought = own_views entry.own in
       held
       (back_views shares brought [] piece.number brought
-      (sym (views_any l list distinct piece found shares brought (own_inside build entry fine)) ∙ ap (list_any (owns piece)) stands.2 ∙ own_as entry.recipe fine.steps ∙ e))
+      (sym (views_any l list distinct piece found shares brought (own_inside build entry fine)) ∙ ap (list_any (owns piece)) stands.2
+      ∙ own_as entry.recipe fine.steps ∙ e))
   has_held_by goal build entry status fine stands held waits comes e = absurd (false_true e)
 
   pub has_held : (goal : Type 0) (build : Build) (entry : Entry) → IsEntryFor list all shares own build entry
-      → (holds_piece shares piece.number ≡ true → goal) → (entry.status ≡ statuses.PendingQuota → list_any (is_own_step piece.number) entry.recipe ≡ true → goal)
+      → (holds_piece shares piece.number ≡ true → goal) → (entry.status ≡ statuses.PendingQuota → list_any (is_own_step piece.number) entry.recipe ≡ true
+      → goal)
       → (entry.status ≡ statuses.PendingTransport → list_any (is_own_step piece.number) entry.recipe ≡ true → goal)
       → has_by (is_on shares piece.number) (is_own_step piece.number) entry.status entry ≡ true → goal
   has_held goal build entry fine held waits comes e = has_held_by goal build entry entry.status fine fine.stands held waits comes e

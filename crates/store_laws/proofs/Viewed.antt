@@ -1,8 +1,9 @@
 -- A piece owns a cell of views exactly where a view is on its item.
-use Rattle.std.proofs.Common.{◌≡◌, ℕ, zero, suc, ◌+◌, ◌≤◌, ◌<◌, ◌==◌, Bool, true, false, ◌&&◌, ◌||◌, List, [], ◌∷◌, ◌++◌, map, length, refl, ap, subst, sym, ◌∙◌, arith, Option, Some, None, inl, inr, ⊎_elim}
-use Rattle.std.specs.Prelude.{cond, find, nat_le, nat_lt, flat_map, IsSomeAnd}
+use Rattle.std.proofs.Common.{◌≡◌, ℕ, zero, suc, ◌+◌, ◌≤◌, ◌<◌, ◌==◌, Bool, true, false, ◌&&◌, ◌||◌, List}
+use Rattle.std.proofs.Common.{[], ◌∷◌, map, length, refl, ap, subst, sym, ◌∙◌, arith, Option, Some, None, ⊎_elim}
+use Rattle.std.specs.Prelude.{nat_le, nat_lt, IsSomeAnd}
 use Rattle.std.specs.List.{AllByRecursion, list_any, range_with_len}
-use Rattle.std.proofs.lemmas.Bool.{and_parts, eqb-true, eq-eqb, leb-true, ltb-true, le-leb, lt-ltb, false_from_ne_true}
+use Rattle.std.proofs.lemmas.Bool.{eqb-true, eq-eqb, le-leb, lt-ltb}
 use Rattle.std.proofs.lemmas.List.{map-append}
 use Rattle.std.proofs.lemmas.List.Folds.{list_any-append}
 use Rattle.blob_words.specs.declared.limits.Limits.{Limits}
@@ -12,13 +13,12 @@ use Rattle.item_shares.specs.declared.shares.Share.{Share}
 use Rattle.item_shares.specs.Shares.{item_at}
 use Rattle.blob_items.specs.declared.view.View.{View}
 use Rattle.blob_items.specs.Cells.{cells, view_cells}
-use Rattle.blob_model.specs.Builds.{Cell, sent, filed, lent, Build}
+use Rattle.blob_model.specs.Builds.{filed, lent, Build}
 use Rattle.blob_model.specs.Pieces.{Piece, owns, pieces_from}
 use Rattle.blob_model.proofs.Lists.{false_true}
 use Rattle.blob_model.proofs.Lists.{both}
 use Rattle.blob_model.proofs.Lists.{or_cases}
 use Rattle.blob_model.proofs.Lists.{or_first}
-use Rattle.blob_model.proofs.Lists.{or_second}
 use Rattle.blob_model.specs.Order.{Distinct}
 use Rattle.blob_model.proofs.builds.PieceNumbers.{FoundIn}
 use Rattle.blob_model.proofs.builds.PieceNumbers.{found_number}
@@ -29,14 +29,22 @@ use Rattle.store_laws.proofs.Denoted.{denoted-view}
 
 -- ---- a range in which a test holds somewhere
 
-pub some_at : {Y : Type 0} (test : Y → Bool) (g : ℕ → Y) (from len : ℕ) → list_any test (map g (range_with_len from len)) ≡ true → (k : ℕ) × (from ≤ k) × (k < from + len) × (test (g k) ≡ true)
+pub some_at : {Y : Type 0} (test : Y → Bool) (g : ℕ → Y) (from len : ℕ) → list_any test (map g (range_with_len from len)) ≡ true
+    → (k : ℕ) × (from ≤ k) × (k < from + len) × (test (g k) ≡ true)
 some_at test g from zero e = absurd (false_true e)
 some_at test g from (suc len) e =
     ⊎_elim (λ (here : test (g from) ≡ true). (from, omega arith, omega arith, here))
-    (λ (more : list_any test (map g (range_with_len (from + 1) len)) ≡ true). let rest = some_at test g (from + 1) len more in (rest.0, omega (arith, rest.1), omega (arith, rest.2), rest.3))
+    (λ (more : list_any test (map g (range_with_len (from + 1) len)) ≡ true). let rest = some_at test g (from + 1) len more in (
+      rest.0,
+      omega
+          (arith, rest.1),
+      omega (arith, rest.2),
+      rest.3,
+    ))
     (or_cases (test (g from)) (list_any test (map g (range_with_len (from + 1) len))) e)
 
-pub any_first : {Y : Type 0} (test : Y → Bool) (g : ℕ → Y) (from len : ℕ) → 0 < len → test (g from) ≡ true → list_any test (map g (range_with_len from len)) ≡ true
+pub any_first : {Y : Type 0} (test : Y → Bool) (g : ℕ → Y) (from len : ℕ) → 0 < len → test (g from) ≡ true
+    → list_any test (map g (range_with_len from len)) ≡ true
 any_first test g from zero some e = absurd (omega arith)
 any_first test g from (suc len) some e = or_first (test (g from)) (list_any test (map g (range_with_len (from + 1) len))) e
 
@@ -45,7 +53,8 @@ any_first test g from (suc len) some e = or_first (test (g from)) (list_any test
 pub owns_own : (piece : Piece) (place : ℕ) → place < piece.len → owns piece (piece_cell (Some piece) place) ≡ true
 owns_own piece place within =
     both ((piece.blob == piece.blob) && nat_le piece.from (piece.from + place)) (nat_lt (piece.from + place) (piece.from + piece.len))
-    (both (piece.blob == piece.blob) (nat_le piece.from (piece.from + place)) (eq-eqb piece.blob piece.blob refl) (le-leb piece.from (piece.from + place) (omega arith)))
+    (both (piece.blob == piece.blob) (nat_le piece.from (piece.from + place)) (eq-eqb piece.blob piece.blob refl) (le-leb piece.from (piece.from + place)
+    (omega arith)))
     (lt-ltb (piece.from + place) (piece.from + piece.len) (omega arith))
 
 -- two tests that hold together
@@ -58,7 +67,8 @@ module _ (l : Limits) (list : List Build) (distinct : Distinct list) (piece : Pi
   abbrev all : List Piece
   all = pieces_from l.page 0 list
 
-  pub piece_any : (number : ℕ) (o : Option Piece) (size off len : ℕ) → piece_in all number ≡ o → IsSomeAnd o (λ (one : Piece). size ≡ one.len) → 0 < len → off + len ≤ size
+  pub piece_any : (number : ℕ) (o : Option Piece) (size off len : ℕ) → piece_in all number ≡ o → IsSomeAnd o (λ (one : Piece). size ≡ one.len) → 0 < len
+      → off + len ≤ size
       → list_any (owns piece) (map (piece_cell o) (range_with_len off len)) ≡ (number == piece.number)
   piece_any number None size off len at sound some inside = absurd sound
   piece_any number (Some one) size off len at sound some inside =
@@ -77,7 +87,8 @@ module _ (l : Limits) (list : List Build) (distinct : Distinct list) (piece : Pi
       any_first (owns piece) (piece_cell (Some one)) off len some
       (subst (λ (each : Piece). owns each (piece_cell (Some one) off) ≡ true) same (owns_own one off (omega (arith, sound)))))
 
-  none_filed : (name : List ℕ) (stamp start off len : ℕ) → list_any (owns piece) (map (λ (place : ℕ). filed name stamp (start + place)) (range_with_len off len)) ≡ false
+  none_filed : (name : List ℕ) (stamp start off len : ℕ) → list_any (owns piece) (map (λ (place : ℕ). filed name stamp (start + place))
+      (range_with_len off len)) ≡ false
   none_filed name stamp start off zero = refl
   none_filed name stamp start off (suc len) = none_filed name stamp start (off + 1) len
 
@@ -93,7 +104,8 @@ module _ (l : Limits) (list : List Build) (distinct : Distinct list) (piece : Pi
   item_any (File name stamp start size) off len sound some inside = none_filed name stamp start off len
   item_any (Range slot start size) off len sound some inside = none_lent slot start off len
 
-  pub view_by : (shares : List (Option Share)) (view : View) (o : Option Item) → item_at shares view.slot ≡ o → IsSomeAnd o (λ (item : Item). (view.off + view.len ≤ item_length item) × IsLongAs all item (piece_of_item item))
+  pub view_by : (shares : List (Option Share)) (view : View) (o : Option Item) → item_at shares view.slot ≡ o
+      → IsSomeAnd o (λ (item : Item). (view.off + view.len ≤ item_length item) × IsLongAs all item (piece_of_item item))
       → list_any (owns piece) (map (cell_at all shares) (view_cells view)) ≡ is_number piece.number (piece_by o)
   view_by shares view None at inside = absurd inside
   view_by shares view (Some item) at inside =

@@ -1,6 +1,6 @@
 -- What holds of the cells of views. Own.
 use Rattle.std.specs.Prelude.{◌≡◌, ℕ, List, ◌++◌, drop, take, Option, Some}
-use Rattle.std.specs.List.{AllByRecursion, list_any, range_with_len}
+use Rattle.std.specs.List.{AllByRecursion, range_with_len}
 use Rattle.std.specs.Prelude.{map}
 use Rattle.item_shares.specs.declared.item.Item.{Item}
 use Rattle.item_shares.specs.declared.shares.Share.{Share}
@@ -16,7 +16,8 @@ IsSameAt all old new view = (place : ℕ) → cell_at all new (view.slot, place)
 
 -- the cells of views that are joined, of views with a part of others' cells, of one view, and of views whose slots say the same as before
 pub record DenotedLaws : Type 0 where
-  pub joined : (all : List Piece) (shares : List (Option Share)) (xs ys : List View) → denoted all shares (xs ++ ys) ≡ denoted all shares xs ++ denoted all shares ys
+  pub joined : (all : List Piece) (shares : List (Option Share)) (xs ys : List View) → denoted all shares
+      (xs ++ ys) ≡ denoted all shares xs ++ denoted all shares ys
   pub cut : (all : List Piece) (shares : List (Option Share)) (views list : List View) (off len : ℕ) → cells list ≡ take len (drop off (cells views))
       → denoted all shares list ≡ take len (drop off (denoted all shares views))
   pub of_view : (all : List Piece) (shares : List (Option Share)) (view : View) (item : Item) → item_at shares view.slot ≡ Some item

@@ -14,7 +14,6 @@ use Rattle.blob_model.specs.Builds.{Build, Cell}
 use Rattle.registry_laws.specs.Agree.{source_names}
 use Rattle.store_laws.specs.Items.{is_number, piece_at, is_range_of}
 use Rattle.item_shares.specs.Shares.{item_at}
-use Rattle.item_shares.specs.declared.item.Item.{Item}
 
 -- the blobs that have an entry, each with it
 abbrev pub paired : List Build → List (Option Entry) → List (Build × Entry)

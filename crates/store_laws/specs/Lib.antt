@@ -5,7 +5,6 @@ pub mod Rows
 pub mod Recipes
 pub mod Outlines
 pub mod PageFiles
-pub mod DiskLaws
 pub mod Tables
 pub mod Uses
 pub mod Stands
@@ -14,3 +13,5 @@ pub mod Having
 pub mod GroupLaws
 pub mod CellLaws
 pub mod ReachLaws
+pub mod PageLaws
+pub mod AgreeLaws

@@ -5,7 +5,7 @@ use Rattle.std.specs.List.{AllByRecursion, list_any}
 use Rattle.answer_text.specs.declared.answer.Answer.{Answer}
 use Rattle.answer_text.specs.declared.answer.Answer.TheVariants as answers
 use Rattle.item_shares.specs.declared.item.Item.{Item}
-use Rattle.item_shares.specs.declared.item.Item.TheVariants.{Memory, Paged, Reserved, File, Range}
+use Rattle.item_shares.specs.declared.item.Item.TheVariants.{Paged}
 use Rattle.item_shares.specs.declared.shares.Share.{Share}
 use Rattle.item_shares.specs.Weights.{weights}
 use Rattle.page_files.specs.declared.held.Held.{Held}

@@ -9,7 +9,9 @@ use Rattle.item_shares.specs.Shares.{AreViewed}
 use Rattle.page_files.specs.Files.{Files}
 use Rattle.quota_queue.specs.Queue.{Queue}
 use Rattle.blob_model.specs.Session.{Session}
-use Rattle.blob_model.specs.History.{History}
+use Rattle.answer_text.specs.declared.group.Group.{Group}
+use Rattle.blob_model.specs.History.{History, history_from, start}
+use Rattle.blob_model.specs.Legal.{IsLegalFrom}
 use Rattle.blob_model.specs.Builds.{Build, builds}
 use Rattle.blob_model.specs.Live.{has_source, is_live}
 use Rattle.blob_model.specs.Order.{AreOrdered}
@@ -66,3 +68,14 @@ ChargesAreTold =
     (s : Session) (h : History) (stands : ℕ → Bool) (book : Book) (shares : List (Option Share)) (rows : List (Option Row)) (quota : Queue) (files : Files)
     (order : List (ℕ × ℕ)) → ContentsStand s h stands book shares rows quota files order → AreExact s h stands → IsAtRest s.limits.page h
     → IsCounted book shares rows → AreGatheredApart s h shares rows → ChargesAre s h shares rows
+
+-- behind each group of a legal transcript the history is at rest
+abbrev pub SettledRests : Type 0
+SettledRests = (s : Session) (groups : List Group) → IsLegalFrom s start groups → IsAtRest s.limits.page (history_from start groups)
+
+-- the data handles that items hold are those reached
+abbrev pub SlotsAreReached : Type 0
+SlotsAreReached =
+    (s : Session) (h : History) (stands : ℕ → Bool) (book : Book) (shares : List (Option Share)) (rows : List (Option Row)) (quota : Queue) (files : Files)
+    (order : List (ℕ × ℕ)) → ContentsStand s h stands book shares rows quota files order → AreExact s h stands → IsAtRest s.limits.page h
+    → IsCounted book shares rows → (k : ℕ) → holds_slot shares k ≡ is_slot_reached s.limits.page h k

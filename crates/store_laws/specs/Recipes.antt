@@ -4,7 +4,6 @@ use Rattle.std.specs.List.{AllByRecursion, range_with_len}
 use Rattle.blob_words.specs.declared.status.Status.{Status}
 use Rattle.blob_words.specs.declared.status.Status.TheVariants as statuses
 use Rattle.item_shares.specs.declared.shares.Share.{Share}
-use Rattle.blob_items.specs.declared.view.View.{View}
 use Rattle.blob_entries.specs.Holdings.{held_views, own_views}
 use Rattle.blob_entries.specs.Statuses.{is_pending}
 use Rattle.blob_entries.specs.declared.entry.Entry.{Entry}

@@ -31,4 +31,5 @@ after_all s removed h = said_all (after_page_jobs s removed h) (compactions s (a
 -- a line's own answers and the lists, one after the other, where the history with its own answers is this
 abbrev pub answers_of : Session → List Answer → List Answer → History → List Answer
 answers_of s own removed h =
-    ((((((own ++ drops s h) ++ endings s (after_drops s h)) ++ drops s (after_endings s h)) ++ removed) ++ grants s (after_removals s removed h)) ++ page_jobs s (after_grants s removed h)) ++ compactions s (after_page_jobs s removed h)
+    ((((((own ++ drops s h) ++ endings s (after_drops s h)) ++ drops s (after_endings s h)) ++ removed) ++ grants s
+    (after_removals s removed h)) ++ page_jobs s (after_grants s removed h)) ++ compactions s (after_page_jobs s removed h)

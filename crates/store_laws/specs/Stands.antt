@@ -69,7 +69,8 @@ lines (refused h event why) = lines h + 1
 lines (said h answer) = lines h
 
 -- entries, items and charges, while the blobs of these names stand
-pub record ContentsStand (s : Session) (h : History) (stands : ℕ → Bool) (book : Book) (shares : List (Option Share)) (rows : List (Option Row)) (quota : Queue) (files : Files)
+pub record ContentsStand (s : Session) (h : History) (stands : ℕ → Bool) (book : Book) (shares : List (Option Share)) (rows : List (Option Row))
+    (quota : Queue) (files : Files)
     (order : List (ℕ × ℕ)) : Type 0 where
   pub names : book.names ≡ map (λ (build : Build). build.name) (builds s.limits.page h)
   pub outlines_stand : outlines book.entries ≡ outlines_of s h stands

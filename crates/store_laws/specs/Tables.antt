@@ -43,7 +43,8 @@ pub record FilesStand (names : List (List ℕ)) (state : List ℕ → Option Fil
   pub many : length files ≡ length names
 
 -- renderers, URLs, files and readers
-pub record TablesStand (s : Session) (h : History) (table : Table) (urls : List (List ℕ × Url)) (files : List (List ℕ × FileNote)) (open_readers : List OpenReader) : Type 0 where
+pub record TablesStand (s : Session) (h : History) (table : Table) (urls : List (List ℕ × Url)) (files : List (List ℕ × FileNote))
+    (open_readers : List OpenReader) : Type 0 where
   pub renderers : RenderersStand (spawned h) (is_alive h) (origin_of h) (count h) table
   pub urls_stand : UrlsStand (entries h) (origin_of h) urls
   pub files_stand : FilesStand (file_names h) (recorded h) (last_stamp h) files

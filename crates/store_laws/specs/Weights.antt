@@ -1,7 +1,7 @@
 -- What an item weighs: bytes in memory, reserved bytes, a piece, a range of a data handle. Own.
 use Rattle.std.specs.Prelude.{ℕ, length, is_some, cond}
 use Rattle.item_shares.specs.declared.item.Item.{Item}
-use Rattle.item_shares.specs.declared.item.Item.TheVariants.{Memory, Paged, Reserved, File, Range}
+use Rattle.item_shares.specs.declared.item.Item.TheVariants.{Memory, Reserved}
 use Rattle.blob_model.specs.Pages.{is_memory, is_reserved}
 use Rattle.blob_model.specs.Pieces.{Piece}
 use Rattle.store_laws.specs.Items.{Facts, is_range_of, piece_of_item}

@@ -1,6 +1,7 @@
-ghost use Rattle.store_laws.specs.ReachLaws.{ChargesAreTold, HeldIsReached};
+ghost use Rattle.store_laws.specs.AgreeLaws.{EntriesAgree, ReachesFollows};
+ghost use Rattle.store_laws.specs.PageLaws.{ArePagesInTurn, DiskIsCharged};
+ghost use Rattle.store_laws.specs.ReachLaws.{ChargesAreTold, HeldIsReached, SettledRests, SlotsAreReached};
 ghost use Rattle.store_laws.specs.CellLaws.{DenotedLaws};
-ghost use Rattle.store_laws.specs.DiskLaws.{DiskIsCharged, WritesAreNumbered};
 ghost use Rattle.store_laws.specs.GroupLaws.{GroupLegal, LateListsKeepLives, OwnLives};
 
 /// A line's own answers and the seven lists of settling, each after the one before, make a legal
@@ -20,12 +21,12 @@ pub fn own_lives()
 {}
 
 /// The cells of views that are joined are those of the one and then of the other; views with a
-/// part of others' cells stand for that part; and what changes no slot's cells changes none of theirs.
+/// part of others' cells stand for that part; and where slots say the same, views do.
 pub fn views_denote_cells()
     ensures { DenotedLaws }
 {}
 
-/// Held.
+/// The pieces held, by items or among gathered bytes, are those reached.
 pub fn held_is_reached()
     ensures { HeldIsReached }
 {}
@@ -36,13 +37,36 @@ pub fn charges_are_told()
     ensures { ChargesAreTold }
 {}
 
-/// In a legal transcript each use of a page number stands at that number.
-pub fn writes_are_numbered()
-    ensures { WritesAreNumbered }
+/// Behind each group of a legal transcript no ending by a broken source is owed, and each source of
+/// an unfinished live blob lives.
+pub fn settled_rests()
+    ensures { SettledRests }
 {}
 
-/// Where what is held is what is reached, page files charge what the tally says of the disk, and as
-/// many of them are held.
+/// The data handles that items hold are those reached.
+pub fn slots_are_reached()
+    ensures { SlotsAreReached }
+{}
+
+/// In a legal transcript page numbers are taken one after the other, by page files and failed writes.
+pub fn pages_in_turn()
+    ensures { ArePagesInTurn }
+{}
+
+/// The bytes charged for page files are those that the history says, and as many page files hold a
+/// reached piece.
 pub fn disk_is_charged()
     ensures { DiskIsCharged }
+{}
+
+/// While whatever lives stands, and whatever is unfinished, entries that are held as their blobs
+/// are agree with the history, as the laws of the registry ask.
+pub fn entries_agree()
+    ensures { EntriesAgree }
+{}
+
+/// When the live blobs stand and no others, what is held is what is reached, and memory, page files
+/// and data handles are as the tally and the history say.
+pub fn reaches_follows()
+    ensures { ReachesFollows }
 {}

@@ -5,4 +5,4 @@ use Rattle.store_laws.proofs.laws.group_legal.Goals as goal
 pub returns : goal.returns
 returns c s h event own removed counted hears still counts =
     let both = group_legal s h event own removed hears.is_own hears.removed_owed still counted counts in
-    record { legal = both.0; behind = both.1; }
+    record { legal = both.0; behind = both.1 }
