@@ -1,4 +1,5 @@
 use Rattle.std.proofs.Common.{rules}
+use Rattle.page_files.specs.Ends.{scene}
 use Rattle.page_files.specs.Items.{IsMemoryIn}
 use Rattle.pages_tests.specs.Runs.{four}
 use Rattle.pages_tests.proofs.Ends.{there_after}
@@ -7,4 +8,4 @@ use Rattle.pages_tests.proofs.steps.finish_one.Goals as goal
 pub returns-clause-there : goal.returns-clause-there
 returns-clause-there g c =
     let memory : IsMemoryIn c.args.shares.now (four 0 c.args.slot) = search rules in
-    there_after c.args.job _ _ c.finish_job.result (four 0 c.args.slot) c.finish_job.ensures.ends c.requires.left memory c.requires.agrees
+    there_after c.args.job (scene _ _ _ _ 0) (scene _ _ _ _ 0) c.finish_job.result (four 0 c.args.slot) c.finish_job.ensures.ends c.requires.left memory c.requires.agrees
