@@ -50,13 +50,13 @@ parted names number (held ∷ later) slot =
     )
 
 module _ (entries : List (Option Entry)) (shares : List (Option Share)) (rows : List Row) (quota : Queue) (files : Files) (held : ℕ)
-  (charged : Charged entries shares rows quota files held) where
+    (charged : Charged entries shares rows quota files held) where
   -- a slot on which entries have views counts them alone
   pub counted : AreCounted entries shares
   counted slot some = let none = charged.unpinned slot some in omega (arith, charged.counts slot, none)
 
 module _ (old new : Book) (shares later : List (Option Share)) (rows : List Row) (quota : Queue) (files : Files) (held : ℕ) (names : List ℕ) (freed : List Item)
-  (charged : Charged old.entries shares rows quota files held) (sweeping : Sweeping old new names shares later freed) where
+    (charged : Charged old.entries shares rows quota files held) (sweeping : Sweeping old new names shares later freed) where
   weighed : (weight : Item → ℕ) → sum_by weight freed + weights weight later ≡ weights weight shares
   weighed weight =
       let said : sum_by weight freed + weights weight later ≡ 0 + weights weight shares = sweeping.lets_go.weighs weight in

@@ -8,5 +8,5 @@ use Rattle.blob_store.proofs.freed.release.Given as goal
 abbrev pub invariant-loop-item : goal.invariant-loop-item
 invariant-loop-item g l =
     (of_table (seen-value (g.dyn-1.0, g.dyn-1.1)).it l.handles
-        ≡ fold released_by (of_table (seen-value (g.dyn-1.0, g.dyn-1.1)).it l.fn.handles) (take l.item-index l.freed))
+    ≡ fold released_by (of_table (seen-value (g.dyn-1.0, g.dyn-1.1)).it l.fn.handles) (take l.item-index l.freed))
     × AreReleasable (of_table (seen-value (g.dyn-1.0, g.dyn-1.1)).it l.handles) (drop l.item-index l.freed)
