@@ -1,0 +1,153 @@
+-- What the parts of a store keep among themselves, whatever the session was. Own.
+use Rattle.std.specs.Prelude.{ℕ, ◌≡◌, ◌≢◌, ◌+◌, ◌-◌, ◌^◌, ◌<◌, ◌≤◌, ◌==◌, ◌&&◌, false, true, List, [], map, length, slice_get, slice_index, sum, Option, None, Some, IfSome, IsSomeAnd}
+use Rattle.std.specs.Option.{option_map_or}
+use Rattle.std.specs.List.{AllByRecursion, list_any}
+use Rattle.blob_words.specs.declared.bounds.TheConstants.{MOST_WEIGHT}
+use Rattle.item_shares.specs.declared.item.Item.{Item}
+use Rattle.item_shares.specs.declared.item.Item.TheVariants.{Memory, Paged, Reserved, File, Range}
+use Rattle.item_shares.specs.declared.shares.Share.{Share}
+use Rattle.item_shares.specs.Shares.{item_at}
+use Rattle.item_shares.specs.Weights.{weights}
+use Rattle.blob_items.specs.declared.view.View.{View}
+use Rattle.blob_entries.specs.Book.{Book, entry_at, entry_of}
+use Rattle.blob_entries.specs.Counts.{count_at}
+use Rattle.blob_entries.specs.Holdings.{held_views, views_in}
+use Rattle.blob_entries.specs.Statuses.{is_broken}
+use Rattle.blob_entries.specs.Weights.{cut_weight}
+use Rattle.blob_entries.specs.declared.entry.Entry.{Entry}
+use Rattle.page_files.specs.declared.held.Held.{Held}
+use Rattle.page_files.specs.declared.page.Page.{Page}
+use Rattle.page_files.specs.Files.{Files, left_of}
+use Rattle.quota_queue.specs.Queue.{Queue}
+use Rattle.page_files.specs.Pages.{pieces_at, pieces_of}
+use Rattle.renderer_table.specs.Counted.{origin_at}
+use Rattle.renderer_table.specs.Table.{was_spawned}
+use Rattle.blob_store.specs.declared.parts.Parts.{Parts}
+use Rattle.blob_store.specs.declared.readers.OpenReader.{OpenReader}
+use Rattle.blob_store.specs.declared.row.Row.{Row}
+use Rattle.blob_store.specs.Readers.{reader_at}
+use Rattle.blob_store.specs.Roots.{roots_at, roots_in}
+use Rattle.blob_store.specs.Rows.{bytes_gathered, pieces_gathered, pins, waiting}
+use Rattle.blob_store.specs.Weights.{memory_weight, piece_weight, range_weight, reserved_weight}
+
+-- ---- items
+
+-- the number of bytes that an item stands for
+abbrev pub item_length : Item → ℕ
+item_length (Memory piece bytes) = length bytes
+item_length (Paged piece page off len) = len
+item_length (Reserved piece len) = len
+item_length (File name stamp off len) = len
+item_length (Range slot off len) = len
+
+-- the item of a piece is in the slot that is the home of the piece; so no piece has two items
+abbrev pub IsHome : List ℕ → ℕ → Item → Type 0
+IsHome homes slot (Memory piece bytes) = slice_get homes piece.0 ≡ Some slot
+IsHome homes slot (Paged piece page off len) = slice_get homes piece.0 ≡ Some slot
+IsHome homes slot (Reserved piece len) = slice_get homes piece.0 ≡ Some slot
+IsHome homes slot (File name stamp off len) = Unit {0}
+IsHome homes slot (Range handle off len) = Unit {0}
+
+-- an item in a page file is listed there with its slot, its offset and its length, and ends inside a 64-bit number; so does one of a data handle
+abbrev pub IsListed : List Page → ℕ → Item → Type 0
+IsListed pages slot (Memory piece bytes) = Unit {0}
+IsListed pages slot (Paged piece page off len) =
+    (off + len ≤ 2 ^ 64 - 1)
+    × (list_any (λ (held : Held). (held.piece.0 == piece.0) && (held.slot == slot) && (held.off == off) && (held.len == len)) (pieces_at pages page.0) ≡ true)
+IsListed pages slot (Reserved piece len) = Unit {0}
+IsListed pages slot (File name stamp off len) = Unit {0}
+IsListed pages slot (Range handle off len) = off + len ≤ 2 ^ 64 - 1
+
+-- what a slot holds
+pub record IsHeld (homes : List ℕ) (pages : List Page) (slot : ℕ) (item : Item) : Type 0 where
+  pub home : IsHome homes slot item
+  pub listed : IsListed pages slot item
+
+-- the number of the piece of an item, and of what a slot holds, is this one
+abbrev pub IsOfPiece : ℕ → Item → Type 0
+IsOfPiece number (Memory piece bytes) = piece.0 ≡ number
+IsOfPiece number (Paged piece page off len) = piece.0 ≡ number
+IsOfPiece number (Reserved piece len) = piece.0 ≡ number
+IsOfPiece number (File name stamp off len) = ⊥
+IsOfPiece number (Range handle off len) = ⊥
+
+-- a piece that a page file or a job lists is in the slot that is named with it
+abbrev pub IsSlotOf : List (Option Share) → Held → Type 0
+IsSlotOf shares held = IsSomeAnd (item_at shares held.slot) (IsOfPiece held.piece.0)
+
+-- a piece in the order of use is in memory, with this length
+abbrev pub IsMemory : ℕ × ℕ → Item → Type 0
+IsMemory used (Memory piece bytes) = (piece.0 ≡ used.0) × (length bytes ≡ used.1)
+IsMemory used item = ⊥
+
+abbrev pub IsInMemory : List (Option Share) → List ℕ → ℕ × ℕ → Type 0
+IsInMemory shares homes used = IsSomeAnd (slice_get homes used.0) (λ (slot : ℕ). IsSomeAnd (item_at shares slot) (IsMemory used))
+
+-- ---- entries
+
+-- a view lies inside the item of its slot
+abbrev pub IsInside : List (Option Share) → View → Type 0
+IsInside shares view = IsSomeAnd (item_at shares view.slot) (λ (item : Item). view.off + view.len ≤ item_length item)
+
+-- the bytes of an item can be asked for
+abbrev pub IsThere : Item → Type 0
+IsThere (Reserved piece len) = ⊥
+IsThere item = Unit {0}
+
+-- the views of an entry lie inside items, and those of its bytes on items that are there
+pub record Views (shares : List (Option Share)) (entry : Entry) : Type 0 where
+  pub inside : AllByRecursion (IsInside shares) (held_views entry)
+  pub there : AllByRecursion (λ (view : View). IfSome (item_at shares view.slot) IsThere) entry.views
+
+-- the weights of the blobs bound the views that each entry has or will have
+abbrev pub AreWeighed : Book → List ℕ → Type 0
+AreWeighed book weights =
+    (number : ℕ) → IfSome (entry_at book.entries number)
+    (λ (entry : Entry). length (held_views entry) + cut_weight book.names weights entry.recipe ≤ slice_index weights number)
+
+-- a reader is of a blob that stands, and of its size unless it is broken
+abbrev pub IsOpen : Book → OpenReader → Type 0
+IsOpen book reader = IsSomeAnd (entry_of book reader.blob) (λ (entry : Entry). is_broken entry.status ≡ false → reader.course.size ≡ entry.size)
+
+-- ---- counts and charges
+
+-- a slot counts the views on it, and one more while its piece is on its way to a page file, when nothing views it; what is charged, reserved and
+-- counted is what the items and the gathered bytes take
+pub record Charged (entries : List (Option Entry)) (shares : List (Option Share)) (rows : List Row) (quota : Queue) (files : Files) (held : ℕ) : Type 0 where
+  pub counts : (slot : ℕ) → count_at shares slot ≡ views_in entries slot + pins slot rows
+  pub unpinned : (slot : ℕ) → 0 < views_in entries slot → pins slot rows ≡ 0
+  pub used : quota.used ≡ weights memory_weight shares + bytes_gathered rows
+  pub reserved : files.reserved ≡ weights reserved_weight shares
+  pub held_so : held ≡ weights piece_weight shares + pieces_gathered rows
+
+-- ---- all parts
+
+abbrev pub row_weights : List Row → List ℕ
+row_weights rows = map (λ (row : Row). row.weight) rows
+
+pub record Whole (parts : Parts) : Type 0 where
+  pub charged : Charged parts.registry.entries parts.shares parts.rows parts.quota parts.pages parts.held
+  pub items : (slot : ℕ) → IfSome (item_at parts.shares slot) (IsHeld parts.homes parts.pages.pages slot)
+  pub ranges : (k : ℕ) → weights (range_weight k) parts.shares ≤ 1
+  pub views : (number : ℕ) → IfSome (entry_at parts.registry.entries number) (Views parts.shares)
+  -- page files, jobs and the order of use
+  pub pages : AllByRecursion (λ (page : Page). AllByRecursion (IsSlotOf parts.shares) (pieces_of page)) parts.pages.pages
+  pub job : AllByRecursion (IsSlotOf parts.shares) (left_of parts.pages.job)
+  pub order : AllByRecursion (IsInMemory parts.shares parts.homes) parts.recent
+  -- a row for each blob
+  pub rows : length parts.rows ≡ length parts.registry.names
+  pub waits : parts.quota.waiting ≡ waiting parts.registry.names parts.rows
+  pub weight : parts.weight ≡ sum (row_weights parts.rows)
+  pub light : parts.weight ≤ MOST_WEIGHT
+  pub weighed : AreWeighed parts.registry (row_weights parts.rows)
+  -- who lives and who holds what
+  pub living : (number : ℕ) → was_spawned number parts.renderers ≡ false → origin_at number parts.renderers ≡ None
+  pub roots : (name : ℕ) → roots_at parts.registry name ≡ roots_in parts.renderers parts.urls parts.readers name
+  pub readers : (number : ℕ) → IfSome (reader_at number parts.readers) (IsOpen parts.registry)
+
+-- the same as one word, so that the proofs of callers stay small
+unfoldable pub IsCharged : Parts → Type 0
+IsCharged parts = Charged parts.registry.entries parts.shares parts.rows parts.quota parts.pages parts.held
+
+unfoldable pub IsWhole : Parts → Type 0
+IsWhole parts = Whole parts
