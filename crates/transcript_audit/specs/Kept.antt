@@ -1,5 +1,5 @@
 -- What is kept of a history, and the notions of it that are looked up in what is kept. Own.
-use Rattle.std.specs.Prelude.{ℕ, ◌==◌, ◌||◌, ◌&&◌, Bool, List, Option, find, reverse, map, filter, bytes_eq, option_and_then}
+use Rattle.std.specs.Prelude.{ℕ, ◌==◌, ◌||◌, ◌&&◌, Bool, List, Option, find, reverse, map, filter, bytes_eq, nat_lt, option_and_then}
 use Rattle.std.specs.Map.{lookup}
 use Rattle.std.specs.Ordering.{nat_cmp}
 use Rattle.std.specs.BTreeMap.{is_at}
@@ -7,6 +7,7 @@ use Rattle.std.specs.List.{list_any}
 use Rattle.std.specs.Option.{option_map_or}
 use Rattle.blob_words.specs.declared.status.Status.{Status}
 use Rattle.blob_model.specs.Recorded.{FileState}
+use Rattle.blob_model.specs.Renderers.{Renderer}
 use Rattle.blob_model.specs.Transport.{Arrival}
 
 -- the renderers that died, and whether all of them did
@@ -39,6 +40,10 @@ is_hold holder name hold = hold.holder == holder && hold.blob == name
 abbrev pub count_in : List Hold → ℕ → ℕ → ℕ
 count_in holds holder name = option_map_or (λ (hold : Hold). hold.count) (find (is_hold holder name) (reverse holds)) 0
 
+-- whether the renderer holds the blob
+abbrev pub holds_one : List Hold → ℕ → Renderer → Bool
+holds_one holds name renderer = nat_lt 0 (count_in holds renderer.number name)
+
 -- what a line said of a file: its state, or that it is gone
 pub record Note : Type 0 where
   pub name : List ℕ
@@ -56,6 +61,10 @@ recorded_in notes name = option_and_then (λ (note : Note). note.state) (find (i
 pub record Brought : Type 0 where
   pub blob : ℕ
   pub arrival : Arrival
+
+-- whether the segment that came is this one of the blob
+abbrev pub is_arrival : ℕ → ℕ → Brought → Bool
+is_arrival name segment one = one.blob == name && one.arrival.segment == segment
 
 -- the segments of the blob that came, in the order in which they came
 abbrev pub arrivals_in : List Brought → ℕ → List Arrival
