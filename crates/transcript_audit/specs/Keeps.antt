@@ -3,14 +3,14 @@ use Rattle.std.specs.Prelude.{ℕ, ◌≡◌, ◌<◌, ◌^◌, List}
 use Rattle.answer_text.specs.declared.answer.Answer.{Answer}
 use Rattle.blob_model.specs.History.{History}
 use Rattle.blob_model.specs.Renderers.{spawned, is_dead}
-use Rattle.blob_model.specs.Recorded.{recorded}
+use Rattle.blob_model.specs.Recorded.{recorded, last_stamp, content, file_names}
 use Rattle.blob_model.specs.Standing.{ended, ended_after, was_granted, was_granted_after}
 use Rattle.blob_model.specs.Transport.{arrivals}
 use Rattle.blob_model.specs.Handles.{count}
 use Rattle.blob_model.specs.Entries.{entries}
 use Rattle.blob_model.specs.Pages.{pages, pages_after, next_page, next_page_after, asked, asked_after}
 use Rattle.blob_model.specs.Jobs.{in_flight, in_flight_after, next_job, next_job_after, paging, turned_off, data_blob, unstored}
-use Rattle.transcript_audit.specs.Kept.{is_dead_in, ended_in, was_granted_in, count_in, recorded_in, arrivals_in}
+use Rattle.transcript_audit.specs.Kept.{is_dead_in, ended_in, was_granted_in, count_in, recorded_in, last_stamp_in, content_in, arrivals_in}
 use Rattle.transcript_audit.specs.declared.kept.Kept.{Kept}
 
 -- each notion that is kept is that of the history
@@ -18,6 +18,9 @@ pub record Keeps (h : History) (kept : Kept) : Type 0 where
   pub spawned_are : kept.spawned ≡ spawned h
   pub dead_are : (number : ℕ) → is_dead_in kept.dead number ≡ is_dead h number
   pub recorded_is : (name : List ℕ) → recorded_in kept.notes name ≡ recorded h name
+  pub last_stamps_are : (name : List ℕ) → last_stamp_in kept.notes name ≡ last_stamp h name
+  pub contents_are : (name : List ℕ) (stamp : ℕ) → content_in kept.notes name stamp ≡ content h name stamp
+  pub files_are : kept.files ≡ file_names h
   pub ended_are : (name : ℕ) → ended_in kept.endings name ≡ ended h name
   pub granted_are : (name : ℕ) → was_granted_in kept.granted name ≡ was_granted h name
   pub arrivals_are : (name : ℕ) → arrivals_in kept.brought name ≡ arrivals h name
@@ -52,6 +55,7 @@ pub record Takes (answer : Answer) (old new : Kept) : Type 0 where
   pub same_spawned : new.spawned ≡ old.spawned
   pub same_dead : new.dead ≡ old.dead
   pub same_notes : new.notes ≡ old.notes
+  pub same_files : new.files ≡ old.files
   pub same_brought : new.brought ≡ old.brought
   pub same_holds : new.holds ≡ old.holds
   pub same_entries : new.entries.items ≡ old.entries.items

@@ -16,7 +16,7 @@ use crate::renderers::{Dead, Renderer, spawned_after};
 use crate::standing::{Endings, Granted};
 use crate::transport::{self, Brought};
 use answer_text::Answer;
-use blob_words::{BlobName, ItemList, NoMemory};
+use blob_words::{BlobName, FileName, ItemList, NoMemory};
 use session_script::Event;
 use std::alloc::Global;
 
@@ -27,6 +27,7 @@ pub struct Kept {
     pub spawned: ItemList<Renderer>,
     pub dead: Dead,
     pub notes: ItemList<Note>,
+    pub files: ItemList<FileName>,
     pub endings: Endings,
     pub granted: Granted,
     pub brought: ItemList<Brought>,
@@ -53,6 +54,7 @@ impl Kept {
             spawned: ItemList::new(alloc),
             dead: Dead::new(alloc),
             notes: ItemList::new(alloc),
+            files: ItemList::new(alloc),
             endings: Endings::new(alloc),
             granted: Granted::new(alloc),
             brought: ItemList::new(alloc),
@@ -106,6 +108,7 @@ impl Kept {
         spawned_after(self.alloc, event, &mut self.spawned)?;
         self.dead.hear(event)?;
         recorded::hear(self.alloc, event, &mut self.notes)?;
+        recorded::file_names_after(self.alloc, event, &mut self.files)?;
         transport::hear(self.alloc, event, &mut self.brought)?;
         self.holds.hear(event)?;
         entries::hear(self.alloc, event, answer, &mut self.entries)?;

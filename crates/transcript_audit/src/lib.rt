@@ -11,6 +11,7 @@ pub mod parts;
 pub mod pieces;
 pub mod readers;
 pub mod recorded;
+pub mod refusals;
 pub mod renderers;
 pub mod settle;
 pub mod standing;
