@@ -1,63 +1,20 @@
--- What is found from the end of a list on, with one more item.
-use Rattle.std.proofs.Common.{◌≡◌, ℕ, ◌+◌, ◌-◌, ◌==◌, ◌&&◌, Bool, true, false, cond, not, ◌||◌, List, [], ◌∷◌, ◌++◌, Option, Some, None, refl, sym, ap, ◌∙◌, subst, if◌then◌else◌}
-use Rattle.std.specs.Prelude.{map, find, filter, reverse, bytes_eq, option_and_then}
+-- What is found from the end of a list on where items go, and segments among those of all blobs.
+use Rattle.std.proofs.Common.{◌≡◌, ℕ, ◌==◌, ◌&&◌, Bool, true, false, cond, not, ◌||◌, List, [], ◌∷◌, ◌++◌, Option, Some, None, refl, sym, ap, ◌∙◌, if◌then◌else◌}
+use Rattle.std.specs.Prelude.{map, find, filter, reverse}
 use Rattle.std.specs.Option.{option_map_or}
 use Rattle.std.proofs.lemmas.List.{reverse-append, append-nil}
 use Rattle.std.proofs.lemmas.List.Elements.{filter-append}
 use Rattle.std.proofs.lemmas.Bool.{eqb-true, eq-eqb, and_parts}
 use Rattle.std.proofs.lemmas.Cmp.{nat_eq_equiv}
-use Rattle.blob_model.specs.Recorded.{FileState}
 use Rattle.blob_model.specs.Transport.{has_come}
 use Rattle.std.specs.List.{list_any}
-use Rattle.transcript_audit.specs.Kept.{Hold, is_hold, count_in, Note, is_of, recorded_in, Brought, is_arrival, arrivals_in}
+use Rattle.transcript_audit.specs.Kept.{Hold, is_hold, count_in, Brought, is_arrival, arrivals_in}
 
 false_true : false ≡ true → ⊥
 false_true e = cc
 
 turned : (a b : ℕ) → (a == b) ≡ (b == a)
 turned a b = nat_eq_equiv.symm a b
-
--- the last item is looked at first
-pub found_last : {X : Type 0} (test : X → Bool) (xs : List X) (x : X) → find test (reverse (xs ++ x ∷ [])) ≡ cond (test x) (Some x) (find test (reverse xs))
-found_last test xs x = ap (find test) (reverse-append xs (x ∷ []))
-
--- the count that was set last
-pub count_set : (holds : List Hold) (hold : Hold) (holder name : ℕ)
-    → count_in (holds ++ hold ∷ []) holder name ≡ (if hold.holder == holder && hold.blob == name then hold.count else count_in holds holder name)
-count_set holds hold holder name =
-    ap (λ (found : Option Hold). option_map_or (λ (one : Hold). one.count) found 0) (found_last (is_hold holder name) holds hold) ∙ by (is_hold holder name hold)
-  where
-    by : (b : Bool) → option_map_or (λ (one : Hold). one.count) (cond b (Some hold) (find (is_hold holder name) (reverse holds))) 0
-        ≡ (if b then hold.count else count_in holds holder name)
-    by true = refl
-    by false = refl
-
--- a count that is changed by what it was
-pub count_changed : (change : ℕ → ℕ) (holds : List Hold) (to b holder name : ℕ)
-    → count_in (holds ++ record { holder = to; blob = b; count = change (count_in holds to b) } ∷ []) holder name
-    ≡ (if to == holder && b == name then change (count_in holds holder name) else count_in holds holder name)
-count_changed change holds to b holder name =
-    count_set holds (record { holder = to; blob = b; count = change (count_in holds to b) }) holder name ∙ by (to == holder && b == name) refl
-  where
-    by : (x : Bool) → (to == holder && b == name) ≡ x
-        → (if x then change (count_in holds to b) else count_in holds holder name) ≡ (if x then change (count_in holds holder name) else count_in holds holder name)
-    by true same =
-        let parts = and_parts (to == holder) (b == name) same in
-        let first : to ≡ holder = eqb-true to holder parts.0 in
-        let second : b ≡ name = eqb-true b name parts.1 in
-        λ i. change (count_in holds (first i) (second i))
-    by false differs = refl
-
--- the note that was made last
-pub noted : (notes : List Note) (note : Note) (name : List ℕ)
-    → recorded_in (notes ++ note ∷ []) name ≡ (if bytes_eq note.name name then note.state else recorded_in notes name)
-noted notes note name =
-    ap (λ (found : Option Note). option_and_then (λ (one : Note). one.state) found) (found_last (is_of name) notes note) ∙ by (is_of name note)
-  where
-    by : (b : Bool) → option_and_then (λ (one : Note). one.state) (cond b (Some note) (find (is_of name) (reverse notes)))
-        ≡ (if b then note.state else recorded_in notes name)
-    by true = refl
-    by false = refl
 
 reverse_filter : {X : Type 0} (keep : X → Bool) (xs : List X) → reverse (filter keep xs) ≡ filter keep (reverse xs)
 reverse_filter keep [] = refl
@@ -94,7 +51,8 @@ find_gone {X} test keep (x ∷ xs) all = by (test x) (keep x) refl refl (find_go
 pub count_left : (holds : List Hold) (gone holder name : ℕ)
     → count_in (filter (λ (hold : Hold). not (hold.holder == gone)) holds) holder name ≡ (if gone == holder then 0 else count_in holds holder name)
 count_left holds gone holder name =
-    ap (λ (list : List Hold). option_map_or (λ (one : Hold). one.count) (find (is_hold holder name) list) 0) (reverse_filter (λ (hold : Hold). not (hold.holder == gone)) holds) ∙ by (gone == holder) refl
+    ap (λ (list : List Hold). option_map_or (λ (one : Hold). one.count) (find (is_hold holder name) list) 0)
+    (reverse_filter (λ (hold : Hold). not (hold.holder == gone)) holds) ∙ by (gone == holder) refl
   where
     by : (b : Bool) → (gone == holder) ≡ b
         → option_map_or (λ (one : Hold). one.count) (find (is_hold holder name) (filter (λ (hold : Hold). not (hold.holder == gone)) (reverse holds))) 0
@@ -119,6 +77,8 @@ come_among name segment (one ∷ all) = by (one.blob == name) (come_among name s
   where
     by : (b : Bool) → list_any (is_arrival name segment) all ≡ has_come (arrivals_in all name) segment
         → ((b && one.arrival.segment == segment) || list_any (is_arrival name segment) all)
-        ≡ has_come (map (λ (each : Brought). each.arrival) (cond b (one ∷ filter (λ (each : Brought). each.blob == name) all) (filter (λ (each : Brought). each.blob == name) all))) segment
+        ≡ has_come
+        (map (λ (each : Brought). each.arrival) (cond b (one ∷ filter (λ (each : Brought). each.blob == name) all) (filter (λ (each : Brought). each.blob == name) all)))
+        segment
     by true same = ap (λ (rest : Bool). (one.arrival.segment == segment) || rest) same
     by false same = same

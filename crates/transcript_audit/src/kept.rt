@@ -91,7 +91,8 @@ impl Kept {
     /// After a further answer.
     pub fn say(&mut self, answer: &Answer) -> Result<(), NoMemory>
         requires short { IsShort self.old }
-        ensures { OnOk result ((h : History) → Keeps h self.old → Keeps (said h answer.now) self.new) }
+        ensures { OnOk result ((h : History) → Keeps h self.old
+            → Keeps (said h answer.now) self.new) }
     {
         self.take(answer)?;
         self.unstored = unstored_after(answer, self.data_blob, self.unstored);
