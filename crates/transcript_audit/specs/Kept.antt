@@ -1,13 +1,15 @@
 -- What is kept of a history, and the notions of it that are looked up in what is kept. Own.
-use Rattle.std.specs.Prelude.{ℕ, ◌==◌, ◌||◌, ◌&&◌, Bool, List, Option, find, reverse, map, filter, bytes_eq, option_and_then}
+use Rattle.std.specs.Prelude.{ℕ, ◌==◌, ◌||◌, ◌&&◌, Bool, false, List, Option, find, reverse, map, filter, bytes_eq, nat_lt, is_some, option_and_then}
 use Rattle.std.specs.Map.{lookup}
 use Rattle.std.specs.Ordering.{nat_cmp}
 use Rattle.std.specs.BTreeMap.{is_at}
 use Rattle.std.specs.List.{list_any}
-use Rattle.std.specs.Option.{option_map_or}
+use Rattle.std.specs.Option.{option_map, option_map_or}
 use Rattle.blob_words.specs.declared.status.Status.{Status}
 use Rattle.blob_model.specs.Recorded.{FileState}
+use Rattle.blob_model.specs.Renderers.{Renderer}
 use Rattle.blob_model.specs.Transport.{Arrival}
+use Rattle.blob_model.specs.Jobs.{Job}
 
 -- the renderers that died, and whether all of them did
 pub record Deaths : Type 0 where
@@ -39,6 +41,10 @@ is_hold holder name hold = hold.holder == holder && hold.blob == name
 abbrev pub count_in : List Hold → ℕ → ℕ → ℕ
 count_in holds holder name = option_map_or (λ (hold : Hold). hold.count) (find (is_hold holder name) (reverse holds)) 0
 
+-- whether the renderer holds the blob
+abbrev pub holds_one : List Hold → ℕ → Renderer → Bool
+holds_one holds name renderer = nat_lt 0 (count_in holds renderer.number name)
+
 -- what a line said of a file: its state, or that it is gone
 pub record Note : Type 0 where
   pub name : List ℕ
@@ -52,11 +58,34 @@ is_of name note = bytes_eq note.name name
 abbrev pub recorded_in : List Note → List ℕ → Option FileState
 recorded_in notes name = option_and_then (λ (note : Note). note.state) (find (is_of name) (reverse notes))
 
+-- whether the note tells a state of the file, and one at this stamp
+abbrev pub has_state : List ℕ → Note → Bool
+has_state name note = bytes_eq note.name name && is_some note.state
+
+abbrev pub is_at_stamp : List ℕ → ℕ → Note → Bool
+is_at_stamp name stamp note = bytes_eq note.name name && option_map_or (λ (state : FileState). state.stamp == stamp) note.state false
+
+-- the last stamp ever recorded of the file
+abbrev pub last_stamp_in : List Note → List ℕ → Option ℕ
+last_stamp_in notes name = option_and_then (λ (note : Note). option_map (λ (state : FileState). state.stamp) note.state) (find (has_state name) (reverse notes))
+
+-- the bytes that the file had at this stamp
+abbrev pub content_in : List Note → List ℕ → ℕ → Option (List ℕ)
+content_in notes name stamp = option_and_then (λ (note : Note). option_map (λ (state : FileState). state.bytes) note.state) (find (is_at_stamp name stamp) (reverse notes))
+
 -- a segment that came, with its blob
 pub record Brought : Type 0 where
   pub blob : ℕ
   pub arrival : Arrival
 
+-- whether the segment that came is this one of the blob
+abbrev pub is_arrival : ℕ → ℕ → Brought → Bool
+is_arrival name segment one = one.blob == name && one.arrival.segment == segment
+
 -- the segments of the blob that came, in the order in which they came
 abbrev pub arrivals_in : List Brought → ℕ → List Arrival
 arrivals_in all name = map (λ (one : Brought). one.arrival) (filter (λ (one : Brought). one.blob == name) all)
+
+-- whether the job in flight has this number
+abbrev pub is_flying : Option Job → ℕ → Bool
+is_flying job number = option_map_or (λ (flying : Job). flying.number == number) job false

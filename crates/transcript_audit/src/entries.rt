@@ -1,10 +1,13 @@
 //! Blob URLs.
-ghost use Rattle.std.specs.Prelude.{◌≡◌, ℕ, ◌==◌, ◌&&◌, find, position, bytes_eq};
-ghost use Rattle.std.specs.List.{list_any};
+ghost use Rattle.std.specs.Prelude.{◌≡◌, ℕ, ◌==◌, ◌&&◌, not, filter, find, position, bytes_eq, OnOk};
+ghost use Rattle.std.specs.List.{list_any, list_all, enumerate_from};
 ghost use Rattle.std.specs.Option.{option_copied};
-ghost use Rattle.blob_model.specs.Entries.{entry_at, before_fragment};
+ghost use Rattle.blob_model.specs.Entries.{entry_at, before_fragment, entries_after, is_name_digit, is_hyphen_place, is_name_byte, is_name_text};
 
-use blob_words::{BlobName, UrlText};
+use answer_text::Answer;
+use blob_words::{BlobName, NoMemory, UrlText};
+use session_script::Event;
+use std::alloc::Global;
 use std::marker::Model;
 
 /// A URL entry: its text, its blob and the renderer that owns it.
@@ -72,4 +75,92 @@ pub fn before_fragment(text: &[u8]) -> &[u8]
         Some(place) => &text[..place],
         None => text,
     }
+}
+
+/// A `url` line adds an entry, a `revoke` line answered `revoked` takes it, and a renderer's
+/// entries go when it dies.
+pub fn hear(
+    alloc: Global,
+    event: &Event,
+    answer: &Answer,
+    entries: &mut Vec<Entry>,
+) -> Result<(), NoMemory>
+    ensures { OnOk result (entries.new.items
+        ≡ entries_after event.now answer.now entries.old.items) }
+{
+    match event {
+        Event::Url { r, b, text } => {
+            let text = text.copy(alloc)?;
+            entries.push(Entry {
+                text,
+                blob: *b,
+                owner: r.0,
+            })?;
+        }
+        Event::Revoke { text, .. } => {
+            if let Answer::Revoked = answer {
+                without_text(entries, text.as_slice());
+            }
+        }
+        Event::Die { r } => without_owner(entries, r.0),
+        Event::Finish => entries.clear(),
+        _ => {}
+    }
+    Ok(())
+}
+
+fn without_text(entries: &mut Vec<Entry>, text: &[u8])
+    ensures { entries.new.items
+        ≡ filter (λ entry. not (bytes_eq entry.text text.now)) entries.old.items }
+{
+    entries.retain(|entry| !is_same(entry.text.as_slice(), text));
+}
+
+fn without_owner(entries: &mut Vec<Entry>, owner: u32)
+    ensures { entries.new.items
+        ≡ filter (λ entry. not (entry.owner == owner)) entries.old.items }
+{
+    entries.retain(|entry| entry.owner != owner);
+}
+
+/// A digit of a name's text: 0 to 9 and a to f.
+fn is_name_digit(byte: u8) -> bool
+    ensures { result ≡ is_name_digit byte }
+{
+    (0x30..=0x39).contains(&byte) || (0x61..=0x66).contains(&byte)
+}
+
+/// The text of a name has hyphens behind its digits 8, 12, 16 and 20.
+fn is_hyphen_place(place: usize) -> bool
+    ensures { result ≡ is_hyphen_place place }
+{
+    place == 8 || place == 13 || place == 18 || place == 23
+}
+
+fn is_name_byte(place: usize, byte: u8) -> bool
+    ensures { result ≡ is_name_byte (place, byte) }
+{
+    if is_hyphen_place(place) {
+        byte == 0x2d
+    } else {
+        is_name_digit(byte)
+    }
+}
+
+fn has_name_bytes(text: &[u8]) -> bool
+    ensures { result ≡ list_all is_name_byte (enumerate_from 0 text.now) }
+{
+    text.iter()
+        .enumerate()
+        .all(|(place, byte)| is_name_byte(place, *byte))
+}
+
+/// The text of a blob's name: 36 bytes, 32 of them lower-case hexadecimal digits.
+pub fn is_name_text(text: &[u8]) -> bool
+    ensures { result ≡ is_name_text text.now }
+{
+    if text.len() != 36 {
+        return false;
+    }
+    has_name_bytes(text)
 }

@@ -118,6 +118,13 @@ pub fn turns_off(answer: &Answer) -> bool
     )
 }
 
+/// Whether pieces may go to page files after a line with this first answer.
+pub fn paging_after(answer: &Answer, before: bool) -> bool
+    ensures { result ≡ (if turns_off answer.now then false else before) }
+{
+    if turns_off(answer) { false } else { before }
+}
+
 /// The blob of the last line, where that is a `data` line.
 pub fn data_blob_of(event: &Event) -> Option<BlobName>
     ensures { result ≡ data_blob_of event.now }

@@ -172,7 +172,8 @@ pub fn grants_at_once(plan: Plan) -> bool
 
 /// Whether the own bytes of a blob of this name and plan have their room.
 pub fn is_granted(granted: &Granted, name: BlobName, plan: Option<Plan>) -> bool
-    ensures { result ≡ (option_map_or grants_at_once plan false || was_granted_in granted.now name) }
+    ensures { result ≡ (option_map_or grants_at_once plan false
+        || was_granted_in granted.now name) }
 {
     if let Some(plan) = plan {
         if grants_at_once(plan) {

@@ -10,4 +10,5 @@ loop-k-preserved c =
     let span : ℕ → ℕ × ℕ = λ (k : ℕ). (c.args.from + (span_at c.args.size c.args.len k).0, (span_at c.args.size c.args.len k).1) in
     let more : map span (range_with_len 0 (c.loop-k.k + 1)) ≡ map span (range_with_len 0 c.loop-k.k) ++ span c.loop-k.k ∷ [] =
     map-range_with_len_more span 0 c.loop-k.k c.loop-k.k (omega arith) in
-    rw (c.in_ok-push.ensures.ok, c.loop-k.invariant, c.cut_span.ensures, more) (append_assoc c.args.found.now (map span (range_with_len 0 c.loop-k.k)) (span c.loop-k.k ∷ []))
+    rw (c.in_ok-push.ensures.ok, c.loop-k.invariant, c.cut_span.ensures, more)
+    (append_assoc c.args.found.now (map span (range_with_len 0 c.loop-k.k)) (span c.loop-k.k ∷ []))

@@ -1,0 +1,122 @@
+//! What is kept, looked up: each answer is that of the history.
+ghost use Rattle.std.specs.Prelude.{◌≡◌, ◌==◌, ◌&&◌, not};
+ghost use Rattle.std.specs.List.{list_any};
+ghost use Rattle.std.specs.Option.{option_copied};
+ghost use Rattle.blob_model.specs.History.{History};
+ghost use Rattle.blob_model.specs.Renderers.{is_alive};
+ghost use Rattle.blob_model.specs.Recorded.{recorded};
+ghost use Rattle.blob_model.specs.Standing.{is_unfinished, is_done, is_broken, was_granted};
+ghost use Rattle.blob_model.specs.Transport.{arrivals, has_come};
+ghost use Rattle.blob_model.specs.Handles.{has_handle, is_held};
+ghost use Rattle.blob_model.specs.Entries.{is_named};
+ghost use Rattle.blob_model.specs.Jobs.{is_in_job};
+ghost use Rattle.transcript_audit.specs.Kept.{is_dead_in, holds_one};
+ghost use Rattle.transcript_audit.specs.Keeps.{Keeps};
+
+use crate::handles::Holds;
+use crate::kept::Kept;
+use crate::recorded::{self, FileState};
+use crate::renderers::{Dead, Renderer, is_spawned};
+use crate::{entries, jobs, transport};
+use blob_words::{BlobName, FileName, RendererId};
+
+/// Whether a renderer was spawned and is not dead.
+fn is_alive_in(spawned: &[Renderer], dead: &Dead, number: u32) -> bool
+    ensures { result ≡ (list_any (λ one. one.number == number) spawned.now
+        && not (is_dead_in dead.now number)) }
+{
+    is_spawned(spawned, number) && !dead.has(number)
+}
+
+fn holds_one(renderer: &Renderer, holds: &Holds, name: BlobName) -> bool
+    ensures { result ≡ holds_one holds.now name renderer.now }
+{
+    holds.has(renderer.number, name)
+}
+
+fn is_held_in(spawned: &[Renderer], holds: &Holds, name: BlobName) -> bool
+    ensures { result ≡ list_any (holds_one holds.now name) spawned.now }
+{
+    spawned
+        .iter()
+        .any(|renderer| holds_one(renderer, holds, name))
+}
+
+impl Kept {
+    /// Whether the renderer was spawned and is not dead.
+    pub fn is_alive(&self, renderer: RendererId) -> bool
+        ensures { (h : History) → Keeps h self.now → result ≡ is_alive h renderer.0 }
+    {
+        is_alive_in(self.spawned.as_slice(), &self.dead, renderer.0)
+    }
+
+    /// What is recorded now of the file.
+    pub fn recorded(&self, name: &FileName) -> Option<&FileState>
+        ensures { (h : History) → Keeps h self.now → option_copied result ≡ recorded h name.now }
+    {
+        recorded::recorded(self.notes.as_slice(), name.as_slice())
+    }
+
+    /// Whether the blob is unfinished.
+    pub fn is_unfinished(&self, name: BlobName) -> bool
+        ensures { (h : History) → Keeps h self.now → result ≡ is_unfinished h name }
+    {
+        self.endings.is_unfinished(name)
+    }
+
+    /// Whether the blob is done.
+    pub fn is_done(&self, name: BlobName) -> bool
+        ensures { (h : History) → Keeps h self.now → result ≡ is_done h name }
+    {
+        self.endings.is_done(name)
+    }
+
+    /// Whether the blob is broken.
+    pub fn is_broken(&self, name: BlobName) -> bool
+        ensures { (h : History) → Keeps h self.now → result ≡ is_broken h name }
+    {
+        self.endings.is_broken(name)
+    }
+
+    /// Whether the blob was granted by an answer.
+    pub fn was_granted(&self, name: BlobName) -> bool
+        ensures { (h : History) → Keeps h self.now → result ≡ was_granted h name }
+    {
+        self.granted.has(name)
+    }
+
+    /// Whether the segment of the blob came.
+    pub fn has_come(&self, name: BlobName, segment: u32) -> bool
+        ensures { (h : History) → Keeps h self.now → result ≡ has_come (arrivals h name) segment }
+    {
+        transport::has_come(self.brought.as_slice(), name, segment)
+    }
+
+    /// Whether the renderer has a handle on the blob.
+    pub fn has_handle(&self, holder: RendererId, name: BlobName) -> bool
+        ensures { (h : History) → Keeps h self.now → result ≡ has_handle h holder.0 name }
+    {
+        self.holds.has(holder.0, name)
+    }
+
+    /// Whether some renderer holds the blob.
+    pub fn is_held(&self, name: BlobName) -> bool
+        ensures { (h : History) → Keeps h self.now → result ≡ is_held h name }
+    {
+        is_held_in(self.spawned.as_slice(), &self.holds, name)
+    }
+
+    /// Whether a URL entry names the blob.
+    pub fn is_named(&self, name: BlobName) -> bool
+        ensures { (h : History) → Keeps h self.now → result ≡ is_named h name }
+    {
+        entries::is_named(&self.entries, name)
+    }
+
+    /// Whether the job in flight names the piece.
+    pub fn is_in_job(&self, number: u32) -> bool
+        ensures { (h : History) → Keeps h self.now → result ≡ is_in_job h number }
+    {
+        jobs::is_in_job(&self.job, number)
+    }
+}
