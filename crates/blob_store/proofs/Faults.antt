@@ -3,7 +3,6 @@ use Rattle.std.proofs.Common.{◌≡◌, ℕ, zero, suc, ◌<◌, ◌==◌, Bool
 use Rattle.std.specs.Prelude.{is_none, if◌then◌else◌}
 use Rattle.blob_words.specs.declared.number.RendererId.{RendererId}
 use Rattle.renderer_table.specs.Table.{Table, count_of, drop_fault, living_of}
-use Rattle.renderer_table.specs.declared.fault.DropFault.{DropFault}
 use Rattle.renderer_table.specs.declared.fault.DropFault.TheVariants as drops
 use Rattle.renderer_table.specs.declared.living.Living.{Living}
 

@@ -10,9 +10,9 @@ use Rattle.blob_words.specs.declared.number.RendererId.{RendererId}
 use Rattle.blob_items.specs.declared.view.View.{View}
 use Rattle.item_shares.specs.declared.shares.Share.{Share}
 use Rattle.item_shares.specs.Shares.{item_at}
-use Rattle.blob_entries.specs.Book.{Book, changed, changed_at, entry_at, entry_of}
-use Rattle.blob_entries.specs.Changes.{held_less, held_more, with_roots}
-use Rattle.blob_entries.specs.Holdings.{held_views, views_in}
+use Rattle.blob_entries.specs.Book.{Book, changed, changed_at, entry_of}
+use Rattle.blob_entries.specs.Changes.{held_less, held_more}
+use Rattle.blob_entries.specs.Holdings.{held_views}
 use Rattle.blob_entries.specs.Names.{number_of}
 use Rattle.blob_entries.specs.Statuses.{is_broken}
 use Rattle.blob_entries.specs.Weights.{cut_weight}

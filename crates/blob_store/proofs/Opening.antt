@@ -1,5 +1,5 @@
 -- A reader comes, and a reader goes.
-use Rattle.std.proofs.Common.{◌≡◌, ℕ, ◌+◌, List, [], ◌∷◌, Option, Some, None, length, refl, sym, ap, ◌∙◌, arith}
+use Rattle.std.proofs.Common.{◌≡◌, ℕ, ◌+◌, List, [], ◌∷◌, Option, Some, None, length, refl, ap, ◌∙◌, arith}
 use Rattle.std.specs.Prelude.{cond, is_some, sum_by, unwrap_or}
 use Rattle.std.specs.Option.{option_map, option_map_or}
 use Rattle.std.specs.List.Sorted.{IsStrictlySortedBy}
@@ -12,7 +12,7 @@ use Rattle.std.proofs.lemmas.Map.Entries.{sum_by-insert_entry, sum_by-remove_ent
 use Rattle.renderer_table.proofs.Lookups.{lookup_inserted}
 use Rattle.renderer_table.proofs.Counting.{lookup_removed}
 use Rattle.blob_store.specs.declared.readers.OpenReader.{OpenReader}
-use Rattle.blob_store.specs.Readers.{reader_at, reads, reads_if, Closes, Opens}
+use Rattle.blob_store.specs.Readers.{reader_at, reads, Closes, Opens}
 
 abbrev Open : Type 0
 Open = List (ℕ × OpenReader)

@@ -20,7 +20,7 @@ use Rattle.blob_model.specs.Builds.{Build}
 use Rattle.blob_model.specs.Order.{Distinct, named}
 use Rattle.blob_model.specs.Pages.{Place, in_memory, in_page, is_memory, is_reserved, reserved}
 use Rattle.blob_model.specs.Parts.{own_bytes}
-use Rattle.blob_model.specs.Pieces.{Piece, numbered, pieces, pieces_from, spans_of}
+use Rattle.blob_model.specs.Pieces.{Piece, numbered, pieces_from, spans_of}
 use Rattle.blob_model.proofs.Lists.{false_true, for_each}
 use Rattle.blob_model.proofs.builds.PieceNumbers.{pieces_numbered}
 use Rattle.blob_model.proofs.live.Closed.{cover_pieces}

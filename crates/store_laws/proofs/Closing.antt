@@ -36,7 +36,7 @@ use Rattle.quota_queue.specs.Queue.{Queue}
 use Rattle.page_files.specs.Files.{Files}
 use Rattle.blob_entries.specs.Book.{Book}
 use Rattle.registry_laws.specs.Agree.{Beside}
-use Rattle.store_laws.specs.Having.{AreClosed, has, has_piece, is_on, is_own_step, is_unbroken, paired, reaches}
+use Rattle.store_laws.specs.Having.{AreClosed, has_piece, is_on, is_own_step, is_unbroken, paired, reaches}
 use Rattle.store_laws.specs.Items.{Facts, IsPlaced, holds_piece, is_number, piece_at, piece_by, piece_of_item}
 use Rattle.store_laws.specs.Cells.{piece_in}
 use Rattle.store_laws.specs.Outlines.{Outline, status_now}

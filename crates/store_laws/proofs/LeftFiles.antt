@@ -25,7 +25,7 @@ use Rattle.blob_model.specs.Pages.{Place, in_memory, reserved, in_page, place}
 use Rattle.blob_model.specs.Jobs.{in_flight}
 use Rattle.blob_model.specs.Readers.{OpenReader, reader_at}
 use Rattle.blob_model.specs.Standing.{ended, is_unfinished}
-use Rattle.blob_model.specs.Tally.{files, job_left, memory}
+use Rattle.blob_model.specs.Tally.{job_left, memory}
 use Rattle.blob_model.specs.Waits.{waits}
 use Rattle.blob_model.specs.Choice.{IsOneOf}
 use Rattle.blob_model.specs.Chunk.{left, chunk, file_of, first_failing, before_failing}
