@@ -1,2 +1,0 @@
-/// The most volumes of a group.
-pub const MOST_VOLUMES: usize = 16;
