@@ -1,5 +1,6 @@
 -- The numbers that a window has, mark by mark.
-use Rattle.std.proofs.Common.{◌≡◌, ℕ, zero, suc, ◌+◌, ◌<◌, ◌≤◌, Bool, true, false, List, [], ◌∷◌, ◌++◌, length, get_or, take, nat_lt, refl, sym, ap, ◌∙◌, arith, append_assoc, append-nil}
+use Rattle.std.proofs.Common.{◌≡◌, ℕ, zero, suc, ◌+◌, ◌<◌, ◌≤◌, Bool, true, false, List, [], ◌∷◌, ◌++◌, length, get_or, take}
+use Rattle.std.proofs.Common.{nat_lt, refl, sym, ap, ◌∙◌, arith, append_assoc, append-nil}
 use Rattle.std.specs.Prelude.{replicate, slice_index_or}
 use Rattle.std.proofs.lemmas.List.{get_or-replicate, length-replicate, length-take-le, take_all, take_more}
 use Rattle.std.proofs.lemmas.Bool.Decides.{nat_tests}
@@ -7,7 +8,8 @@ use Rattle.blob_registry.specs.Dependents.{listed_if}
 use Rattle.store_reach.specs.Windows.{listed}
 
 -- a mark more
-listed_append : (number : ℕ) (marks : List Bool) (mark : Bool) → listed number (marks ++ mark ∷ []) ≡ listed number marks ++ listed_if mark (number + length marks)
+listed_append : (number : ℕ) (marks : List Bool) (mark : Bool)
+    → listed number (marks ++ mark ∷ []) ≡ listed number marks ++ listed_if mark (number + length marks)
 listed_append number [] mark = let here : number + length {A = Bool} [] ≡ number = omega arith in rw here (append-nil (listed_if mark number))
 listed_append number (first ∷ marks) mark =
     let next : number + length (first ∷ marks) ≡ (number + 1) + length marks = omega arith in

@@ -35,7 +35,10 @@ pub marked_end : (book : Book) → MarkedTo book (length book.entries) (replicat
 marked_end book = record {
   sized = length-replicate (length book.entries) false;
   after = λ k within. absurd (omega (arith, within));
-  before = λ k below. get_or-replicate (length book.entries) k false false below ∙ sym (ap (λ (list : Entries). is_needed book.names k (swept book.names (length book.entries) list)) (drop_all (length book.entries) book.entries (omega arith)));
+  before = λ k below.
+      get_or-replicate (length book.entries) k false false below
+      ∙ sym (ap (λ (list : Entries). is_needed book.names k (swept book.names (length book.entries) list))
+      (drop_all (length book.entries) book.entries (omega arith)));
 }
 
 -- the entries from a number on are the one there and those behind it
@@ -69,14 +72,8 @@ marked_down book number before after sound inside marked weighs = record {
   before = λ k below. under k below;
 }
   where
-    held : Option Entry
-    held = entry_at book.entries number
-
     here : mark_at before number ≡ is_needed book.names number (behind book (number + 1))
     here = marked.before number (omega arith)
-
-    lives : Bool
-    lives = lives_so book number before
 
     rest : behind book number ≡ left (lives_so book number before) (entry_at book.entries number) ∷ behind book (number + 1)
     rest = behind_at book number inside
@@ -88,9 +85,6 @@ marked_down book number before after sound inside marked weighs = record {
 
     size : length before ≡ length book.entries
     size = marked.sized
-
-    stays : Bool
-    stays = is_some (left (lives_so book number before) (entry_at book.entries number))
 
     at : (k : ℕ) → number + k < length book.entries → mark_at after (number + k) ≡ is_some (entry_at (behind book number) k)
     at zero within =
@@ -151,7 +145,8 @@ marked_all book marks marked = (marked.sized, each)
             (past_end (swept book.names 0 book.entries) k None (omega (arith, past, swept_length book.names 0 book.entries))))
 
 -- what is left somewhere stood there
-pub live_stands : (names : List ℕ) (number k : ℕ) (entries : Entries) → is_some (entry_at (swept names number entries) k) ≡ true → is_some (entry_at entries k) ≡ true
+pub live_stands : (names : List ℕ) (number k : ℕ) (entries : Entries) → is_some (entry_at (swept names number entries) k) ≡ true
+    → is_some (entry_at entries k) ≡ true
 live_stands names number k [] is = is
 live_stands names number zero (held ∷ entries) is = by (is_rooted held || is_needed names number (swept names (number + 1) entries)) held is
   where
@@ -169,8 +164,8 @@ pub live_next : (book : Book) (marks : List Bool) (number : ℕ) → AreSound bo
     → live_from book number ≡ cond (mark_at marks number) (option_to_list (name_under book number)) [] ++ live_from book (number + 1)
 live_next book marks number sound live inside =
     standing_more book.names (swept book.names 0 book.entries) number (omega (arith, inside, size)) (omega (arith, size, sound.sized))
-    ∙ ap (λ (front : List ℕ). front ++ live_from book (number + 1)) (by (entry_at (swept book.names 0 book.entries) number) refl (mark_at marks number) (live.1 number)
-    (entry_at book.entries number) refl)
+    ∙ ap (λ (front : List ℕ). front ++ live_from book (number + 1))
+    (by (entry_at (swept book.names 0 book.entries) number) refl (mark_at marks number) (live.1 number) (entry_at book.entries number) refl)
   where
     size : length (swept book.names 0 book.entries) ≡ length book.entries
     size = swept_length book.names 0 book.entries

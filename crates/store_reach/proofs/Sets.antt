@@ -48,7 +48,8 @@ all_with : (low m : ℕ) (list : List ℕ) → low < m → AllByRecursion (λ (o
 all_with low m [] less all = (less, tt)
 all_with low m (other ∷ others) less all = by (all_with low m others less all.1) (nat_lt m other) (nat_eq m other)
   where
-    by : AllByRecursion (λ (n : ℕ). low < n) (with_number m others) → (b same : Bool) → AllByRecursion (λ (n : ℕ). low < n) (cond b (m ∷ other ∷ others) (cond same (other ∷ others) (other ∷ with_number m others)))
+    by : AllByRecursion (λ (n : ℕ). low < n) (with_number m others) → (b same : Bool)
+        → AllByRecursion (λ (n : ℕ). low < n) (cond b (m ∷ other ∷ others) (cond same (other ∷ others) (other ∷ with_number m others)))
     by on true same = (less, all)
     by on false true = all
     by on false false = (all.0, on)
@@ -122,7 +123,8 @@ below_marks (mark ∷ marks) bound list rising each =
     let here : mark ≡ is_among bound list = each 0 (omega arith) ∙ ap (λ (n : ℕ). is_among n list) start in
     ap (λ (n : ℕ). below n list) next
     ∙ below_marks marks (bound + 1) list rising
-    (λ place inside. each (suc place) (omega arith) ∙ ap (λ (n : ℕ). is_among n list) (let same : bound + suc place ≡ (bound + 1) + place = omega arith in same))
+    (λ place inside. let same : bound + suc place ≡ (bound + 1) + place = omega arith in
+    each (suc place) (omega arith) ∙ ap (λ (n : ℕ). is_among n list) same)
     ∙ ap (λ (front : List ℕ). front ++ listed (bound + 1) marks) (below_next bound list rising)
     ∙ append_assoc (below bound list) (listed_if (is_among bound list) bound) (listed (bound + 1) marks)
     ∙ ap (λ (b : Bool). below bound list ++ (listed_if b bound ++ listed (bound + 1) marks)) (sym here)
@@ -135,8 +137,12 @@ below_gap low high (first ∷ list) le apart =
     (ap (λ (rest : List ℕ). cond (nat_lt first low) (first ∷ rest) rest) (below_gap low high list le (λ n among. apart n (later n among))))
   where
     by : (first < low) ⊎ (high ≤ first) → nat_lt first high ≡ nat_lt first low
-    by (inl under) = let one : nat_lt first high ≡ true = grind (arith, nat_tests) in let other : nat_lt first low ≡ true = grind (arith, nat_tests) in one ∙ sym other
-    by (inr over) = let one : nat_lt first high ≡ false = grind (arith, nat_tests) in let other : nat_lt first low ≡ false = grind (arith, nat_tests) in one ∙ sym other
+    by (inl under) =
+        let one : nat_lt first high ≡ true = grind (arith, nat_tests) in
+        let other : nat_lt first low ≡ true = grind (arith, nat_tests) in one ∙ sym other
+    by (inr over) =
+        let one : nat_lt first high ≡ false = grind (arith, nat_tests) in
+        let other : nat_lt first low ≡ false = grind (arith, nat_tests) in one ∙ sym other
 
     later : (n : ℕ) → is_among n list ≡ true → (nat_eq first n || is_among n list) ≡ true
     later n among = or_late (nat_eq first n)

@@ -1,6 +1,7 @@
 -- A window over the numbers that came.
 use Rattle.std.proofs.Common.{◌≡◌, ◌≢◌, ◌⊎◌, inl, inr, ℕ, ◌+◌, ◌-◌, ◌<◌, ◌≤◌, Bool, true, false, cond, ◌||◌, List, [], ◌∷◌, ◌++◌, Option, Some, None}
-use Rattle.std.proofs.Common.{length, set, min, nat_eq, nat_lt, refl, sym, ap, ◌∙◌, subst, arith, append_assoc, append-nil, length-set, get_or-set_same, get_or-set_other, length-append}
+use Rattle.std.proofs.Common.{length, set, min, nat_eq, nat_lt, refl, sym, ap, ◌∙◌, subst, arith}
+use Rattle.std.proofs.Common.{append_assoc, append-nil, length-set, get_or-set_same, get_or-set_other, length-append}
 use Rattle.std.specs.Prelude.{MatchOption, slice_index_or}
 use Rattle.std.specs.Option.{option_map_or}
 use Rattle.std.proofs.lemmas.Bool.{eqb-false, eqb-true}
@@ -163,12 +164,6 @@ pub goes_on : (start : ℕ) (window : Marks) (pieces : List PieceNo) → IsBlank
     → GoesOn (as_set (numbers pieces)) start (taken_all window pieces)
 goes_on start window pieces blank = by (taken_all window pieces).next refl
   where
-    last : Marks
-    last = taken_all window pieces
-
-    all : List ℕ
-    all = as_set (numbers pieces)
-
     over : IsOver start (length window.marks) (numbers pieces) (taken_all window pieces)
     over = over_all start (length window.marks) [] window pieces (over_blank start window blank)
 
@@ -192,7 +187,8 @@ goes_on start window pieces blank = by (taken_all window pieces).next refl
         (λ (n : ℕ). (start < n) × (below n (as_set (numbers pieces))
         ≡ below start (as_set (numbers pieces)) ++ listed (taken_all window pieces).start (taken_all window pieces).marks))
     by None is =
-        let behind : Behind (start + length window.marks) (numbers pieces) None = subst (Behind (start + length window.marks) (numbers pieces)) is over.behind in
+        let behind : Behind (start + length window.marks) (numbers pieces) None =
+        subst (Behind (start + length window.marks) (numbers pieces)) is over.behind in
         sym (below_all (start + length window.marks) (as_set (numbers pieces)) (λ n among. behind n (sym (among_set n (numbers pieces)) ∙ among))) ∙ marks
     by (Some n) is =
         let behind : Behind (start + length window.marks) (numbers pieces) (Some n) =

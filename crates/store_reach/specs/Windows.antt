@@ -1,7 +1,8 @@
 -- Which of so many numbers in a row are those of pieces, and the least number behind them. Own; no public call cites it.
 use Rattle.std.specs.List.{fold}
 use Rattle.std.specs.Option.{option_map_or}
-use Rattle.std.specs.Prelude.{Bool, List, MatchOption, None, Option, Some, [], false, filter, if◌then◌else◌, length, min, nat_lt, set, slice_index_or, true, ℕ, ◌+◌, ◌-◌, ◌<◌, ◌^◌, ◌++◌, ◌∷◌, ◌≡◌}
+use Rattle.std.specs.Prelude.{Bool, List, MatchOption, None, Option, Some, [], false, filter, if◌then◌else◌, length, min, nat_lt}
+use Rattle.std.specs.Prelude.{set, slice_index_or, true, ℕ, ◌+◌, ◌-◌, ◌<◌, ◌^◌, ◌++◌, ◌∷◌, ◌≡◌}
 use Rattle.blob_registry.specs.Dependents.{listed_if}
 use Rattle.blob_words.specs.declared.number.PieceNo.{PieceNo}
 

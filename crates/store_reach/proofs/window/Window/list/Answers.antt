@@ -10,7 +10,8 @@ use Rattle.store_reach.proofs.window.Window.list.Goals as goal
 use Rattle.store_reach.proofs.window.Window.list.Goals.{then-mark+in_ok-push, else-mark}
 
 lists_more : (start : ℕ) (marks : List Bool) (i : ℕ) (mark : Bool) (front : List PieceNo) → i < length marks → slice_index_or marks i false ≡ mark
-    → front ++ map piece_no (listed start (take (i + 1) marks)) ≡ (front ++ map piece_no (listed start (take i marks))) ++ map piece_no (listed_if mark (start + i))
+    → front ++ map piece_no (listed start (take (i + 1) marks))
+    ≡ (front ++ map piece_no (listed start (take i marks))) ++ map piece_no (listed_if mark (start + i))
 lists_more start marks i mark front inside is =
     ap (λ (list : List ℕ). front ++ map piece_no list) (listed_more start marks i mark inside is)
     ∙ ap (λ (list : List PieceNo). front ++ list) (map-append piece_no (listed start (take i marks)) (listed_if mark (start + i)))
