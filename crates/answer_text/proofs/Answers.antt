@@ -8,11 +8,11 @@ use Rattle.blob_words.specs.declared.number.PieceNo.{PieceNo}
 use Rattle.blob_words.specs.declared.plan.Plan.{Plan}
 use Rattle.blob_words.specs.declared.plan.Plan.TheVariants as plans
 use Rattle.blob_words.specs.declared.tally.Tally.{Tally}
-use Rattle.session_script.specs.Fields.{joined}
-use Rattle.session_script.specs.Kind.{Spells, number_32, AllSpell}
-use Rattle.session_script.specs.Reading.{split}
-use Rattle.session_script.proofs.Splits.{joined-split}
-use Rattle.session_script.proofs.Visible.{AreVisible, has_feed, all_visible, spells_visible, literal_visible, split-visible, feedless}
+use Rattle.text_fields.specs.Fields.{joined}
+use Rattle.text_fields.specs.Kind.{Spells, number_32, AllSpell}
+use Rattle.text_fields.specs.Reading.{split}
+use Rattle.text_fields.proofs.Splits.{joined-split}
+use Rattle.text_fields.proofs.Visible.{AreVisible, has_feed, all_visible, spells_visible, literal_visible, split-visible, feedless}
 use Rattle.answer_text.specs.Fault.{IsRefusalFields, IsPlan, ArePieces, IsAnswerFields, IsAnswer, IsTally, kinds_of, refusal_kinds, tally_kinds, ReadsAs}
 use Rattle.answer_text.specs.Reading.{ReadsAnswer}
 use Rattle.answer_text.specs.Text.{refusal_word_of, refusal_fields, plan_fields, piece_fields, word_of, answer_fields, answer_text, tally_fields, tally_text, RefusalHasText, PlanHasText, PiecesHaveText, HasText, TallyHasText}

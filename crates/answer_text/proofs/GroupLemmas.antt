@@ -6,12 +6,12 @@ use Rattle.std.proofs.lemmas.Grind.{flat_map-append}
 use Rattle.std.proofs.lemmas.List.{append_assoc, append-nil, length-append}
 use Rattle.blob_source.specs.Lines.{has_line_feed}
 use Rattle.blob_words.specs.declared.tally.Tally.{Tally}
-use Rattle.session_script.specs.Fields.{joined}
+use Rattle.text_fields.specs.Fields.{joined}
 use Rattle.session_script.specs.Line.{line_of, HasSpelling}
-use Rattle.session_script.specs.Reading.{split}
+use Rattle.text_fields.specs.Reading.{split}
 use Rattle.session_script.specs.declared.event.Event.{Event}
 use Rattle.session_script.proofs.Lines.{line_of-feedless}
-use Rattle.session_script.proofs.Splits.{joined-split}
+use Rattle.text_fields.proofs.Splits.{joined-split}
 use Rattle.answer_text.specs.Fault.{IsAnswer, IsTally, Refuses}
 use Rattle.answer_text.specs.Groups.{HasNoEvent, HasNoFurther, IsCut, IsPlace, HasNoGroup, ReadsGroup, ReadsEventLine, ReadsFurther, ReadsBehind, AreAnswers, IsCutBehind}
 use Rattle.answer_text.specs.Text.{answer_text, tally_text, tally_fields, event_line, answer_line, tally_line, group_text, word_of, HasText, TallyHasText}

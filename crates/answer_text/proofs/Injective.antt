@@ -10,11 +10,12 @@ use Rattle.blob_words.specs.declared.plan.Plan.{Plan}
 use Rattle.blob_words.specs.declared.plan.Plan.TheVariants as plans
 use Rattle.blob_words.specs.declared.tally.Tally.{Tally}
 use Rattle.session_script.specs.Line.{line_of}
-use Rattle.session_script.specs.Reading.{split}
-use Rattle.session_script.specs.Status.{switch_word}
-use Rattle.session_script.proofs.Injective.{line_injective, same_32, same_hex, same_job, same_name, same_reader, same_renderer}
+use Rattle.text_fields.specs.Reading.{split}
+use Rattle.text_fields.specs.Status.{switch_word}
+use Rattle.session_script.proofs.Injective.{line_injective, same_job, same_reader, same_renderer}
+use Rattle.text_fields.proofs.Spellings.{same_32, same_hex, same_name}
 use Rattle.session_script.specs.declared.event.Event.{Event}
-use Rattle.session_script.proofs.Words.{look_up, same_status, some_same}
+use Rattle.text_fields.proofs.Words.{look_up, same_status, some_same}
 use Rattle.answer_text.specs.Text.{refusal_word_of, refusal_fields, plan_fields, piece_fields, word_of, answer_fields, answer_text, tally_fields, tally_text, answer_line, tally_line, group_text, groups_text, RefusalHasText, PlanHasText, HasText, TallyHasText, GroupHasText}
 use Rattle.answer_text.specs.Word.{word_text, counted_fields}
 use Rattle.answer_text.specs.declared.answer.Answer.{Answer}

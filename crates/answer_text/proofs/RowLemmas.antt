@@ -3,11 +3,11 @@ use Rattle.std.proofs.Common.{◌≡◌, ℕ, ◌⊎◌, ◌<◌, ◌^◌, decim
 use Rattle.std.specs.List.{AllByRecursion}
 use Rattle.std.proofs.lemmas.List.{append_assoc, append-nil, length-append, length-map, map-append}
 use Rattle.blob_words.specs.declared.number.PieceNo.{PieceNo}
-use Rattle.session_script.specs.Kind.{Kind, Spells, number_32, AllSpell, IsFirstFault, IsRowFault}
-use Rattle.session_script.specs.declared.line_fault.LineFault.{LineFault}
-use Rattle.session_script.specs.declared.line_fault.LineFault.TheVariants as line_faults
-use Rattle.session_script.proofs.Lines.{row_no_fault}
-use Rattle.session_script.proofs.Rows.{length_spelled}
+use Rattle.text_fields.specs.Kind.{Kind, Spells, number_32, AllSpell, IsFirstFault, IsRowFault}
+use Rattle.text_fields.specs.declared.line_fault.LineFault.{LineFault}
+use Rattle.text_fields.specs.declared.line_fault.LineFault.TheVariants as line_faults
+use Rattle.text_fields.proofs.Faults.{row_no_fault}
+use Rattle.text_fields.proofs.Rows.{length_spelled}
 use Rattle.answer_text.specs.Fault.{form_of, ArePieces, IsJob, IsPaged, Refuses, HasFront}
 use Rattle.answer_text.specs.Text.{piece_fields, PiecesHaveText}
 use Rattle.answer_text.specs.declared.text_fault.TextFault.{TextFault}

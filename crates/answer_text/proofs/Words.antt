@@ -1,6 +1,6 @@
 -- No two words have one text.
 use Rattle.std.proofs.Common.{◌≡◌, List, [], ◌∷◌, Some, refl, sym, ap, ◌∙◌, codes}
-use Rattle.session_script.proofs.Words.{look_up, some_same}
+use Rattle.text_fields.proofs.Words.{look_up, some_same}
 use Rattle.answer_text.specs.Word.{word_text, refusal_text, plan_text}
 use Rattle.answer_text.specs.declared.answer_word.AnswerWord.{AnswerWord}
 use Rattle.answer_text.specs.declared.answer_word.AnswerWord.TheVariants as words

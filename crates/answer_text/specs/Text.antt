@@ -8,9 +8,10 @@ use Rattle.blob_words.specs.declared.number.PieceNo.{PieceNo}
 use Rattle.blob_words.specs.declared.plan.Plan.{Plan}
 use Rattle.blob_words.specs.declared.plan.Plan.TheVariants as plans
 use Rattle.blob_words.specs.declared.tally.Tally.{Tally}
-use Rattle.session_script.specs.Fields.{joined, hex_text}
-use Rattle.session_script.specs.Line.{line_of, HasSpelling, IsContentType}
-use Rattle.session_script.specs.Status.{status_word, is_told, is_broken, is_end, switch_word}
+use Rattle.text_fields.specs.Fields.{joined, hex_text}
+use Rattle.session_script.specs.Line.{line_of, HasSpelling}
+use Rattle.text_fields.specs.Kind.{IsContentType}
+use Rattle.text_fields.specs.Status.{status_word, is_told, is_broken, is_end, switch_word}
 use Rattle.session_script.specs.declared.event.Event.{Event}
 use Rattle.answer_text.specs.Word.{word_text, refusal_text, plan_text, counted_fields}
 use Rattle.answer_text.specs.declared.answer.Answer.{Answer}

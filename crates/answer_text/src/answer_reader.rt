@@ -1,9 +1,9 @@
 //! The answers of a transcript, read and put.
 
 ghost use Rattle.std.specs.Prelude.{◌≡◌, ◌∷◌};
-ghost use Rattle.session_script.specs.Fields.{fields};
-ghost use Rattle.session_script.specs.Output.{output, IsPut};
-ghost use Rattle.session_script.specs.Reading.{split};
+ghost use Rattle.text_fields.specs.Fields.{fields};
+ghost use Rattle.text_fields.specs.Output.{output, IsPut};
+ghost use Rattle.text_fields.specs.Reading.{split};
 ghost use Rattle.answer_text.specs.Fault.{IsAnswer, IsJob, IsPaged, ReadsAs};
 ghost use Rattle.answer_text.specs.Reading.{ReadsAnswer};
 ghost use Rattle.answer_text.specs.Text.{word_of, answer_fields, answer_text, piece_fields, HasText};
@@ -16,11 +16,11 @@ use crate::rows::{read_job_pieces, read_paged_pieces, read_row};
 use crate::text_fault::TextFault;
 use blob_source::Sink;
 use blob_words::{BlobName, Failed, FileName, JobNo, PageNo, PieceList, PieceNo, ReaderId};
-use session_script::LineFault;
-use session_script::buffer::Buffer;
-use session_script::field::{Broken, ContentType, Ending, SomeOctets, Spell, Told};
-use session_script::fields::Fields;
-use session_script::put::{put_each, put_five, put_four, put_one, put_three, put_two};
+use text_fields::LineFault;
+use text_fields::buffer::Buffer;
+use text_fields::field::{Broken, ContentType, Ending, SomeOctets, Spell, Told};
+use text_fields::fields::Fields;
+use text_fields::put::{put_each, put_five, put_four, put_one, put_three, put_two};
 use std::alloc::Global;
 
 fn read_good(fields: &Fields<'_>) -> Result<Answer, TextFault>

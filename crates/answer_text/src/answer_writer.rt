@@ -1,8 +1,8 @@
 //! The answers of a transcript, put.
 
 ghost use Rattle.std.specs.Prelude.{◌≡◌, ◌∷◌, decimal};
-ghost use Rattle.session_script.specs.Fields.{fields};
-ghost use Rattle.session_script.specs.Output.{output, IsPut};
+ghost use Rattle.text_fields.specs.Fields.{fields};
+ghost use Rattle.text_fields.specs.Output.{output, IsPut};
 ghost use Rattle.answer_text.specs.Text.{word_of, answer_fields, answer_text, piece_fields};
 
 use crate::answer::Answer;
@@ -11,9 +11,9 @@ use crate::plans::put_plan;
 use crate::refusals::put_refusal;
 use blob_source::Sink;
 use blob_words::{Failed, JobNo, PageNo, PieceList};
-use session_script::buffer::Buffer;
-use session_script::field::{Broken, Ending, Spell, Told};
-use session_script::put::{put_each, put_five, put_four, put_one, put_three, put_two};
+use text_fields::buffer::Buffer;
+use text_fields::field::{Broken, Ending, Spell, Told};
+use text_fields::put::{put_each, put_five, put_four, put_one, put_three, put_two};
 
 fn word_of(answer: &Answer) -> AnswerWord
     ensures { result ≡ word_of answer.now }

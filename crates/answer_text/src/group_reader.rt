@@ -2,7 +2,7 @@
 
 ghost use Rattle.std.specs.Prelude.{◌≡◌, ◌∷◌, ◌++◌, ◌≤◌, ℕ, List, [], Err, codes, length};
 ghost use Rattle.session_script.specs.Line.{HasSpelling};
-ghost use Rattle.session_script.specs.Reading.{split};
+ghost use Rattle.text_fields.specs.Reading.{split};
 ghost use Rattle.answer_text.specs.Fault.{IsTally, ReadsAs};
 ghost use Rattle.answer_text.specs.Groups.{HasNoGroup, ReadsBehind, ReadsEventLine, ReadsFurther, ReadsGroup};
 ghost use Rattle.answer_text.specs.Text.{tally_text, TallyHasText};
@@ -17,7 +17,7 @@ use crate::lines::Lines;
 use crate::rows::{form_of, read_row};
 use crate::text_fault::TextFault;
 use blob_words::Tally;
-use session_script::fields::Fields;
+use text_fields::fields::Fields;
 use session_script::{Event, read_line};
 use std::alloc::Global;
 

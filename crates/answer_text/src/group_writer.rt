@@ -2,7 +2,7 @@
 
 ghost use Rattle.std.specs.Prelude.{◌≡◌, ◌++◌, codes, OnOk, OnErr};
 ghost use Rattle.std.specs.List.{flat_map};
-ghost use Rattle.session_script.specs.Output.{output, IsPut, IsStreamed};
+ghost use Rattle.text_fields.specs.Output.{output, IsPut, IsStreamed};
 ghost use Rattle.answer_text.specs.Text.{answer_line, event_line, group_text, tally_line, tally_text};
 
 use crate::answer::Answers;
@@ -10,10 +10,10 @@ use crate::group::Group;
 use blob_source::Sink;
 use blob_words::{Failed, NoMemory, Octets, Tally};
 use session_script::Event;
-use session_script::buffer::Buffer;
-use session_script::field::Spell;
-use session_script::put::{put_four, put_line, put_lines};
-use session_script::stream::{print, stream};
+use text_fields::buffer::Buffer;
+use text_fields::field::Spell;
+use text_fields::put::{put_four, put_line, put_lines};
+use text_fields::stream::{print, stream};
 use std::alloc::Global;
 
 fn put_event_line<K: Sink>(buffer: &mut Buffer, out: &mut K, event: &Event) -> Result<(), Failed>

@@ -12,7 +12,6 @@ pub mod group_reader;
 pub mod group_writer;
 pub mod laws;
 pub mod lines;
-pub mod literal;
 pub mod plan_word;
 pub mod plans;
 pub mod refusal;

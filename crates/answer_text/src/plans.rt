@@ -1,21 +1,21 @@
 //! The plans of a transcript, read and put.
 
 ghost use Rattle.std.specs.Prelude.{◌≡◌, ◌∷◌};
-ghost use Rattle.session_script.specs.Fields.{fields};
-ghost use Rattle.session_script.specs.Output.{output, IsPut};
+ghost use Rattle.text_fields.specs.Fields.{fields};
+ghost use Rattle.text_fields.specs.Output.{output, IsPut};
 ghost use Rattle.answer_text.specs.Fault.{IsPlan, ReadsAs};
 ghost use Rattle.answer_text.specs.Text.{plan_fields, PlanHasText};
 ghost use Rattle.answer_text.specs.Word.{plan_text};
 
-use crate::literal::Literal;
+use text_fields::literal::Literal;
 use crate::plan_word::PlanWord;
 use crate::rows::read_row;
 use crate::text_fault::TextFault;
 use blob_source::Sink;
 use blob_words::{Failed, Plan};
-use session_script::buffer::Buffer;
-use session_script::fields::Fields;
-use session_script::put::{put_one, put_two};
+use text_fields::buffer::Buffer;
+use text_fields::fields::Fields;
+use text_fields::put::{put_one, put_two};
 use std::alloc::Global;
 
 fn read_behind(alloc: Global, word: PlanWord, fields: &mut Fields<'_>) -> Result<Plan, TextFault>

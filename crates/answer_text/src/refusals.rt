@@ -2,25 +2,25 @@
 
 ghost use Rattle.std.specs.Prelude.{◌≡◌, ◌≢◌, [], ◌∷◌, MatchOption};
 ghost use Rattle.blob_words.specs.declared.counted.Counted.{Counted as ACounted};
-ghost use Rattle.session_script.specs.Fields.{fields};
-ghost use Rattle.session_script.specs.Output.{output, IsPut};
+ghost use Rattle.text_fields.specs.Fields.{fields};
+ghost use Rattle.text_fields.specs.Output.{output, IsPut};
 ghost use Rattle.answer_text.specs.Word.{counted_fields};
 ghost use Rattle.answer_text.specs.Fault.{IsRefusal, ReadsAs};
 ghost use Rattle.answer_text.specs.Reading.{ReadsRefusal};
 ghost use Rattle.answer_text.specs.Text.{refusal_word_of, refusal_fields, RefusalHasText};
 ghost use Rattle.answer_text.specs.Word.{refusal_text};
 
-use crate::literal::Literal;
+use text_fields::literal::Literal;
 use crate::refusal::Refusal;
 use crate::refusal_word::RefusalWord;
 use crate::rows::read_row;
 use crate::text_fault::TextFault;
 use blob_source::Sink;
 use blob_words::{BlobName, Counted, Failed, JobNo, ReaderId, RendererId};
-use session_script::buffer::Buffer;
-use session_script::field::Spell;
-use session_script::fields::Fields;
-use session_script::put::{put_one, put_two};
+use text_fields::buffer::Buffer;
+use text_fields::field::Spell;
+use text_fields::fields::Fields;
+use text_fields::put::{put_one, put_two};
 use std::alloc::Global;
 
 fn read_no_renderer(alloc: Global, fields: &mut Fields<'_>) -> Result<Refusal, TextFault>

@@ -1,15 +1,15 @@
 //! The fields behind an answer's word, read all at once.
 
 ghost use Rattle.std.specs.Prelude.{◌≡◌, ◌∷◌, ◌<◌, ◌^◌, decimal};
-ghost use Rattle.session_script.specs.Kind.{AllSpell};
+ghost use Rattle.text_fields.specs.Kind.{AllSpell};
 ghost use Rattle.answer_text.specs.Fault.{form_of, ArePieces, IsJob, IsPaged, ReadsAs, TakesAs};
 ghost use Rattle.answer_text.specs.Text.{piece_fields, PiecesHaveText};
 
 use crate::text_fault::TextFault;
 use blob_words::{JobNo, PageNo, PieceList, PieceNo};
-use session_script::LineFault;
-use session_script::fields::Fields;
-use session_script::row::Row;
+use text_fields::LineFault;
+use text_fields::fields::Fields;
+use text_fields::row::Row;
 use std::alloc::Global;
 
 /// What a fault of a field means for an answer: want of memory, or no such text.

@@ -4,8 +4,8 @@ use Rattle.std.specs.Io.KnownBytes.{Appends, Consumes}
 use Rattle.answer_text.specs.declared.group.Group.{Group}
 use Rattle.session_script.specs.declared.event.Event.{Event}
 use Rattle.session_script.specs.declared.event.Event.TheVariants as events
-use Rattle.session_script.specs.declared.line_fault.LineFault.{LineFault}
-use Rattle.session_script.specs.declared.line_fault.LineFault.TheVariants as faults
+use Rattle.text_fields.specs.declared.line_fault.LineFault.{LineFault}
+use Rattle.text_fields.specs.declared.line_fault.LineFault.TheVariants as faults
 use Rattle.session_script.specs.Fault.{IsLineFault}
 use Rattle.session_script.specs.Line.{line_of}
 use Rattle.blob_words.specs.declared.limits.Limits.{Limits}

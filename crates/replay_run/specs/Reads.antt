@@ -3,8 +3,8 @@ use Rattle.std.specs.Prelude.{◌≡◌, ◌≢◌, ◌⊎◌, ◌+◌, ◌^◌,
 use Rattle.blob_source.specs.Lines.{has_line_feed}
 use Rattle.session_script.specs.declared.event.Event.{Event}
 use Rattle.session_script.specs.declared.event.Event.TheVariants as events
-use Rattle.session_script.specs.declared.line_fault.LineFault.{LineFault}
-use Rattle.session_script.specs.declared.line_fault.LineFault.TheVariants as faults
+use Rattle.text_fields.specs.declared.line_fault.LineFault.{LineFault}
+use Rattle.text_fields.specs.declared.line_fault.LineFault.TheVariants as faults
 use Rattle.session_script.specs.Fault.{IsLineFault}
 use Rattle.session_script.specs.Line.{line_of, HasSpelling}
 use Rattle.blob_words.specs.declared.limits.Limits.{Limits}

@@ -1,7 +1,7 @@
 -- The words for the line at which a session is refused. Own.
 use Rattle.std.specs.Prelude.{ℕ, List, Option, None, Some, codes}
-use Rattle.session_script.specs.declared.line_fault.LineFault.{LineFault}
-use Rattle.session_script.specs.declared.line_fault.LineFault.TheVariants as faults
+use Rattle.text_fields.specs.declared.line_fault.LineFault.{LineFault}
+use Rattle.text_fields.specs.declared.line_fault.LineFault.TheVariants as faults
 use Rattle.replay_run.specs.declared.reason.Reason.{Reason}
 use Rattle.replay_run.specs.declared.reason.Reason.TheVariants.{Lines, Long, Unended, Word, Fields, Number, Hex, Name, «Type», Limits, First, Unbuilt}
 

@@ -1,6 +1,6 @@
 -- The last line of a session that was refused, and texts that are cut off. Own format.
 use Rattle.std.specs.Prelude.{ℕ, ◌≡◌, ◌<◌, List, [], ◌∷◌, ◌++◌, length, take, codes, decimal}
-use Rattle.session_script.specs.Fields.{joined}
+use Rattle.text_fields.specs.Fields.{joined}
 use Rattle.replay_run.specs.declared.reason.Reason.{Reason}
 use Rattle.replay_run.specs.Reason.{reason_text}
 

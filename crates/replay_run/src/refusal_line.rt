@@ -1,17 +1,17 @@
 //! The last line of a session that was refused.
 
 ghost use Rattle.std.specs.Prelude.{◌≡◌, ◌∷◌, [], codes, decimal};
-ghost use Rattle.session_script.specs.Fields.{joined};
-ghost use Rattle.session_script.specs.Output.{output, IsPut};
+ghost use Rattle.text_fields.specs.Fields.{joined};
+ghost use Rattle.text_fields.specs.Output.{output, IsPut};
 ghost use Rattle.replay_run.specs.Reason.{reason_text};
 
 use crate::reason::Reason;
 use answer_text::literal::Literal;
 use blob_source::Sink;
 use blob_words::Failed;
-use session_script::buffer::Buffer;
-use session_script::field::Spell;
-use session_script::put::put_two;
+use text_fields::buffer::Buffer;
+use text_fields::field::Spell;
+use text_fields::put::put_two;
 
 /// `!`, the number of the line that was refused, from 1, and why.
 #[derive(Clone, Copy, Debug, PartialEq, Eq)]

@@ -1,14 +1,7 @@
-pub mod Bytes
-pub mod Each
-pub mod Hex
 pub mod Injective
 pub mod Limits
 pub mod Lines
-pub mod Numbers
-pub mod Outputs
 pub mod Parts
-pub mod Rows
 pub mod Single
-pub mod Splits
 pub mod Visible
 pub mod Words

@@ -6,25 +6,26 @@ use Rattle.blob_words.specs.BlobName.{name_text}
 use Rattle.blob_words.specs.declared.limits.Limits.{Limits}
 use Rattle.session_script.specs.EventReading.{ReadsEvent}
 use Rattle.session_script.specs.Fault.{IsPart, IsPartFault, IsFirstPartFault, IsBuildFault, IsLimitsFault, IsOwnFault, IsWordsFault, IsLineFault, kinds_of, kinds_of_letter}
-use Rattle.session_script.specs.Fields.{joined, hex_text}
-use Rattle.session_script.specs.Kind.{Kind, AllSpell, IsFirstFault, IsRowFault}
+use Rattle.text_fields.specs.Fields.{joined, hex_text}
+use Rattle.text_fields.specs.Kind.{AllSpell, IsFirstFault}
 use Rattle.session_script.specs.Line.{word_of, event_fields, line_of, limit_numbers, part_text, PartHasText, HasSpelling}
-use Rattle.session_script.specs.Reading.{split, IsReading}
+use Rattle.text_fields.specs.Reading.{split, IsReading}
 use Rattle.session_script.specs.Word.{word_text}
 use Rattle.session_script.specs.declared.event.Event.{Event}
 use Rattle.session_script.specs.declared.event.Event.TheVariants as events
 use Rattle.session_script.specs.declared.event.Part.{Part}
 use Rattle.session_script.specs.declared.letter.Letter.{Letter}
 use Rattle.session_script.specs.declared.letter.Letter.TheVariants as letters
-use Rattle.session_script.specs.declared.line_fault.LineFault.{LineFault}
-use Rattle.session_script.specs.declared.line_fault.LineFault.TheVariants.{Memory}
+use Rattle.text_fields.specs.declared.line_fault.LineFault.{LineFault}
+use Rattle.text_fields.specs.declared.line_fault.LineFault.TheVariants.{Memory}
 use Rattle.session_script.specs.declared.word.Word.{Word}
 use Rattle.session_script.specs.declared.word.Word.TheVariants as words
 use Rattle.session_script.proofs.Limits.{limits_small, limits_taken}
-use Rattle.session_script.proofs.Rows.{length_spelled}
-use Rattle.session_script.proofs.Splits.{joined-split}
-use Rattle.session_script.proofs.Visible.{AreVisible, all_visible, is_part, parts_visible, split-visible, word_visible, feedless}
+use Rattle.text_fields.proofs.Splits.{joined-split}
+use Rattle.text_fields.proofs.Visible.{AreVisible, all_visible, split-visible, feedless}
+use Rattle.session_script.proofs.Visible.{is_part, parts_visible, word_visible}
 use Rattle.session_script.proofs.Words.{same_word, same_letter}
+use Rattle.text_fields.proofs.Faults.{first_no_fault, row_no_fault}
 
 same_first : {A : Type 0} (x y : A) (xs ys : List A) → x ∷ xs ≡ y ∷ ys → x ≡ y
 same_first x y xs ys e = cc
@@ -40,17 +41,6 @@ line_read line first own word (Ok event) parted is_word is_read =
     (is_read.0.0, sym (joined-split 32 line) ∙ ap (joined 32) (parted ∙ same))
 line_read line first own word (Err fault) parted is_word (inl memory) = inl memory
 line_read line first own word (Err fault) parted is_word (inr wrong) = inr (subst (IsWordsFault fault) (sym parted) (inr (word, is_word, wrong)))
-
--- spelled fields have no fault
-pub first_no_fault : (kinds : List Kind) (fault : LineFault) (texts : List (List ℕ)) → AllSpell kinds texts → IsFirstFault kinds fault texts → ⊥
-first_no_fault [] fault texts all wrong = absurd wrong
-first_no_fault (kind ∷ kinds) fault [] all wrong = absurd wrong
-first_no_fault (kind ∷ kinds) fault (text ∷ texts) all (inl here) = here.0 all.0
-first_no_fault (kind ∷ kinds) fault (text ∷ texts) all (inr behind) = first_no_fault kinds fault texts all.1 behind.1
-
-pub row_no_fault : (kinds : List Kind) (fault : LineFault) (texts : List (List ℕ)) → AllSpell kinds texts → IsRowFault kinds fault texts → ⊥
-row_no_fault kinds fault texts all (inl count) = count.0 (length_spelled kinds texts all)
-row_no_fault kinds fault texts all (inr first) = first_no_fault kinds fault texts all first.1
 
 -- each letter has a field behind it
 none_alone : (letter : Letter) → AllSpell (kinds_of_letter letter) [] → ⊥

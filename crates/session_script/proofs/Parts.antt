@@ -5,18 +5,18 @@ use Rattle.std.proofs.lemmas.List.{append_assoc, append-nil, map-append}
 use Rattle.blob_words.specs.Limits.{limit_fault}
 use Rattle.blob_words.specs.declared.limit_fault.LimitFault.{LimitFault}
 use Rattle.session_script.specs.Fault.{IsPart, IsPartFault, IsFirstPartFault, IsBuildCount, IsBuildFault, IsLimitsFault, kinds_of, kinds_of_letter}
-use Rattle.session_script.specs.Fields.{joined}
-use Rattle.session_script.specs.Kind.{AllSpell, IsRowFault}
+use Rattle.text_fields.specs.Fields.{joined}
+use Rattle.text_fields.specs.Kind.{AllSpell, IsRowFault}
 use Rattle.session_script.specs.Line.{letter_of, part_fields, part_text, PartHasText}
-use Rattle.session_script.specs.Reading.{split, IsReading}
+use Rattle.text_fields.specs.Reading.{split, IsReading}
 use Rattle.session_script.specs.Word.{letter_text}
 use Rattle.session_script.specs.declared.event.Part.{Part}
 use Rattle.session_script.specs.declared.event.Part.TheVariants as parts
 use Rattle.session_script.specs.declared.letter.Letter.{Letter}
-use Rattle.session_script.specs.declared.line_fault.LineFault.{LineFault}
-use Rattle.session_script.specs.declared.line_fault.LineFault.TheVariants.{Memory, Limits}
+use Rattle.text_fields.specs.declared.line_fault.LineFault.{LineFault}
+use Rattle.text_fields.specs.declared.line_fault.LineFault.TheVariants.{Memory, Limits}
 use Rattle.session_script.specs.declared.word.Word.TheVariants as words
-use Rattle.session_script.proofs.Splits.{joined-split}
+use Rattle.text_fields.proofs.Splits.{joined-split}
 
 -- the fields of a part spell values of its letter's kinds
 pub part_spelled : (part : Part) → PartHasText part → AllSpell (kinds_of_letter (letter_of part)) (part_fields part)

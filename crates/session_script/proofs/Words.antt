@@ -1,27 +1,17 @@
 -- No two words have one text, and no two letters.
-use Rattle.std.proofs.Common.{◌≡◌, ℕ, true, List, [], ◌∷◌, Option, Some, None, if◌then◌else◌, refl, sym, ap, ◌∙◌}
+use Rattle.std.proofs.Common.{◌≡◌, true, List, [], ◌∷◌, Some, refl, sym, ap, ◌∙◌}
 use Rattle.std.specs.Prelude.{nat_le, ◌&&◌, ◌||◌}
 use Rattle.std.specs.List.{list_all}
-use Rattle.std.specs.Str.{bytes_eq}
-use Rattle.blob_words.specs.declared.status.Status.{Status}
 use Rattle.blob_words.specs.declared.status.Status.TheVariants as statuses
-use Rattle.session_script.specs.Status.{status_word}
 use Rattle.session_script.specs.Word.{word_text, letter_text}
 use Rattle.session_script.specs.declared.letter.Letter.{Letter}
 use Rattle.session_script.specs.declared.letter.Letter.TheVariants as letters
 use Rattle.session_script.specs.declared.word.Word.{Word}
 use Rattle.session_script.specs.declared.word.Word.TheVariants as words
-
--- the first value that has a text
-abbrev pub look_up : {A : Type 0} → (A → List ℕ) → List A → List ℕ → Option A
-look_up text_of [] text = None
-look_up text_of (value ∷ values) text = if bytes_eq (text_of value) text then Some value else look_up text_of values text
+use Rattle.text_fields.proofs.Words.{look_up, some_same}
 
 abbrev all_words : List Word
 all_words = words.Limits ∷ words.Limits2 ∷ words.Spawn ∷ words.Die ∷ words.File ∷ words.Gone ∷ words.Build ∷ words.Slice ∷ words.Segment ∷ words.Pass ∷ words.Drop ∷ words.Stat ∷ words.Url ∷ words.Revoke ∷ words.Read ∷ words.Fetch ∷ words.Step ∷ words.Cancel ∷ words.Disk ∷ words.Lost ∷ words.Count ∷ words.Finish ∷ []
-
-pub some_same : {A : Type 0} (x y : A) → Some x ≡ Some y → x ≡ y
-some_same x y e = cc
 
 word_found : (word : Word) → look_up word_text all_words (word_text word) ≡ Some word
 word_found words.Limits = refl
@@ -91,19 +81,3 @@ letter_plain letters.Asked = refl
 letter_plain letters.FileRange = refl
 letter_plain letters.BlobRange = refl
 letter_plain letters.HandleRange = refl
-
-status_found : (s : Status) → look_up status_word (statuses.InvalidArguments ∷ statuses.OutOfMemory ∷ statuses.FileWriteFailed ∷ statuses.SourceDied ∷ statuses.Dereferenced ∷ statuses.ReferencedBlobBroken ∷ statuses.ReferencedFileUnavailable ∷ statuses.Done ∷ statuses.PendingQuota ∷ statuses.PendingTransport ∷ statuses.PendingReferencedBlobs ∷ []) (status_word s) ≡ Some s
-status_found statuses.InvalidArguments = refl
-status_found statuses.OutOfMemory = refl
-status_found statuses.FileWriteFailed = refl
-status_found statuses.SourceDied = refl
-status_found statuses.Dereferenced = refl
-status_found statuses.ReferencedBlobBroken = refl
-status_found statuses.ReferencedFileUnavailable = refl
-status_found statuses.Done = refl
-status_found statuses.PendingQuota = refl
-status_found statuses.PendingTransport = refl
-status_found statuses.PendingReferencedBlobs = refl
-
-pub same_status : (s t : Status) → status_word s ≡ status_word t → s ≡ t
-same_status s t same = some_same s t (sym (status_found s) ∙ ap (look_up status_word (statuses.InvalidArguments ∷ statuses.OutOfMemory ∷ statuses.FileWriteFailed ∷ statuses.SourceDied ∷ statuses.Dereferenced ∷ statuses.ReferencedBlobBroken ∷ statuses.ReferencedFileUnavailable ∷ statuses.Done ∷ statuses.PendingQuota ∷ statuses.PendingTransport ∷ statuses.PendingReferencedBlobs ∷ [])) same ∙ status_found t)

@@ -2,9 +2,9 @@
 use Rattle.std.specs.Prelude.{ℕ, ◌≡◌, List, Result}
 use Rattle.session_script.specs.Fault.{IsOwnFault}
 use Rattle.session_script.specs.Line.{word_of, event_fields, HasSpelling}
-use Rattle.session_script.specs.Reading.{IsReading}
+use Rattle.text_fields.specs.Reading.{IsReading}
 use Rattle.session_script.specs.declared.event.Event.{Event}
-use Rattle.session_script.specs.declared.line_fault.LineFault.{LineFault}
+use Rattle.text_fields.specs.declared.line_fault.LineFault.{LineFault}
 use Rattle.session_script.specs.declared.word.Word.{Word}
 
 -- the event of a word that the fields behind it spell, or what is wrong with them

@@ -2,13 +2,13 @@
 use Rattle.std.specs.Prelude.{ℕ, ◌≡◌, ◌≢◌, ◌⊎◌, ◌^◌, ◌<◌, ◌≤◌, List, [], ◌∷◌, IsSome, length, map, take, drop, decimal}
 use Rattle.std.specs.List.{AllByRecursion}
 use Rattle.blob_words.specs.Limits.{limit_fault}
-use Rattle.session_script.specs.Kind.{Kind, number_32, number_64, positive, len, place, name, origin, file_name, url_text, bytes, content_type, AllSpell, IsFirstFault, IsRowFault}
-use Rattle.session_script.specs.Reading.{split}
+use Rattle.text_fields.specs.Kind.{Kind, number_32, number_64, positive, len, place, name, origin, file_name, url_text, bytes, content_type, AllSpell, IsFirstFault, IsRowFault}
+use Rattle.text_fields.specs.Reading.{split}
 use Rattle.session_script.specs.Word.{word_text, letter_text}
 use Rattle.session_script.specs.declared.letter.Letter.{Letter}
 use Rattle.session_script.specs.declared.letter.Letter.TheVariants as letters
-use Rattle.session_script.specs.declared.line_fault.LineFault.{LineFault}
-use Rattle.session_script.specs.declared.line_fault.LineFault.TheVariants as faults
+use Rattle.text_fields.specs.declared.line_fault.LineFault.{LineFault}
+use Rattle.text_fields.specs.declared.line_fault.LineFault.TheVariants as faults
 use Rattle.session_script.specs.declared.word.Word.{Word}
 use Rattle.session_script.specs.declared.word.Word.TheVariants as words
 

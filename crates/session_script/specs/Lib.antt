@@ -1,9 +1,4 @@
-pub mod Fields
-pub mod Status
-pub mod Kind
-pub mod Reading
 pub mod Word
 pub mod Line
 pub mod Fault
 pub mod EventReading
-pub mod Output

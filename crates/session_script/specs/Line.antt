@@ -8,7 +8,8 @@ use Rattle.blob_words.specs.FileName.{is_file_name}
 use Rattle.blob_words.specs.Origin.{is_origin}
 use Rattle.blob_words.specs.UrlText.{is_url_text}
 use Rattle.blob_words.specs.declared.limits.Limits.{Limits}
-use Rattle.session_script.specs.Fields.{joined, hex_text, len_text, place_text}
+use Rattle.text_fields.specs.Fields.{joined, hex_text, len_text, place_text}
+use Rattle.text_fields.specs.Kind.{IsContentType}
 use Rattle.session_script.specs.Word.{word_text, letter_text}
 use Rattle.session_script.specs.declared.event.Event.{Event}
 use Rattle.session_script.specs.declared.event.Event.TheVariants as events
@@ -96,10 +97,6 @@ event_fields events.Finish = []
 -- the one line of an event, without its line feed: its word and its fields, parted by spaces
 abbrev pub line_of : Event → List ℕ
 line_of event = joined 32 (word_text (word_of event) ∷ event_fields event)
-
--- a content type has at most 255 bytes
-abbrev pub IsContentType : List ℕ → Type 0
-IsContentType kind = IsBytes kind × (length kind ≤ 255)
 
 -- a part that has a text: its numbers, name and bytes are in range
 abbrev pub PartHasText : Part → Type 0

@@ -4,7 +4,7 @@ ghost use Rattle.std.specs.Prelude.{◌≡◌, ℕ, List};
 ghost use Rattle.session_script.specs.Fault.{IsLineFault};
 ghost use Rattle.session_script.specs.Line.{line_of, HasSpelling};
 ghost use Rattle.session_script.specs.declared.event.Event.{Event};
-ghost use Rattle.session_script.specs.declared.line_fault.LineFault.{LineFault};
+ghost use Rattle.text_fields.specs.declared.line_fault.LineFault.{LineFault};
 
 /// No two events have one line.
 pub fn lines_are_injective()

@@ -4,16 +4,16 @@ ghost use Rattle.std.specs.Prelude.{◌≡◌, ◌≢◌, ◌≤◌, length, map
 ghost use Rattle.session_script.specs.Fault.{IsLimitsFault, IsBuildFault, IsLineFault};
 ghost use Rattle.session_script.specs.Line.{limit_numbers, event_fields, line_of, HasSpelling};
 ghost use Rattle.session_script.specs.EventReading.{ReadsEvent};
-ghost use Rattle.session_script.specs.Reading.{IsReading};
+ghost use Rattle.text_fields.specs.Reading.{IsReading};
 ghost use Rattle.session_script.specs.declared.event.Event.{Event as AnEvent};
-ghost use Rattle.session_script.specs.declared.line_fault.LineFault.TheVariants.{Memory};
+ghost use Rattle.text_fields.specs.declared.line_fault.LineFault.TheVariants.{Memory};
 
 use crate::event::Event;
-use crate::field::ContentType;
-use crate::fields::Fields;
-use crate::line_fault::LineFault;
+use text_fields::field::ContentType;
+use text_fields::fields::Fields;
+use text_fields::LineFault;
 use crate::part::read_parts;
-use crate::row::Row;
+use text_fields::row::Row;
 use crate::word::Word;
 use blob_words::{
     BlobName, FileName, JobNo, Limits, Octets, Origin, ReaderId, RendererId, UrlText,

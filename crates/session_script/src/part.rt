@@ -3,19 +3,19 @@
 ghost use Rattle.std.specs.Prelude.{◌≡◌, ◌≤◌, length, map, IfOk};
 ghost use Rattle.std.specs.List.{AllByRecursion};
 ghost use Rattle.session_script.specs.Fault.{kinds_of_letter, IsPart, IsPartFault, IsFirstPartFault};
-ghost use Rattle.session_script.specs.Fields.{fields};
-ghost use Rattle.session_script.specs.Kind.{IsRowFault};
+ghost use Rattle.text_fields.specs.Fields.{fields};
+ghost use Rattle.text_fields.specs.Kind.{IsRowFault};
 ghost use Rattle.session_script.specs.Line.{letter_of, part_fields, part_text, PartHasText};
-ghost use Rattle.session_script.specs.Output.{output, IsPut};
-ghost use Rattle.session_script.specs.Reading.{split, IsReading};
+ghost use Rattle.text_fields.specs.Output.{output, IsPut};
+ghost use Rattle.text_fields.specs.Reading.{split, IsReading};
 
-use crate::buffer::Buffer;
+use text_fields::buffer::Buffer;
 use crate::event::{Part, Parts};
-use crate::field::{Positive, Spell};
-use crate::fields::Fields;
+use text_fields::field::{Positive, Spell};
+use text_fields::fields::Fields;
 use crate::letter::Letter;
-use crate::line_fault::LineFault;
-use crate::put::{put_four, put_one, put_three};
+use text_fields::LineFault;
+use text_fields::put::{put_four, put_one, put_three};
 use blob_source::Sink;
 use blob_words::{BlobName, Failed, FileName, Octets};
 use std::alloc::Global;

@@ -2,15 +2,15 @@
 
 ghost use Rattle.std.specs.Prelude.{◌≡◌, ◌++◌, ◌≤◌, map, decimal, OnOk, OnErr};
 ghost use Rattle.blob_source.specs.Faults.{Rose};
-ghost use Rattle.session_script.specs.Fields.{fields};
+ghost use Rattle.text_fields.specs.Fields.{fields};
 ghost use Rattle.session_script.specs.Line.{limit_numbers, word_of, event_fields, line_of};
-ghost use Rattle.session_script.specs.Output.{output, IsPut, IsStreamed};
+ghost use Rattle.text_fields.specs.Output.{output, IsPut, IsStreamed};
 
-use crate::buffer::Buffer;
+use text_fields::buffer::Buffer;
 use crate::event::{Event, Parts};
-use crate::field::Spell;
-use crate::put::{put_each, put_five, put_four, put_one, put_seven, put_six, put_three, put_two};
-use crate::stream::{print, stream};
+use text_fields::field::Spell;
+use text_fields::put::{put_each, put_five, put_four, put_one, put_seven, put_six, put_three, put_two};
+use text_fields::stream::{print, stream};
 use crate::word::Word;
 use blob_source::Sink;
 use blob_words::{BlobName, Failed, Limits, NoMemory, Octets, RendererId};

@@ -12,9 +12,10 @@ use Rattle.blob_words.specs.declared.plan.Plan.{Plan}
 use Rattle.blob_words.specs.declared.plan.Plan.TheVariants as plans
 use Rattle.blob_words.specs.declared.status.Status.{Status}
 use Rattle.blob_words.specs.declared.status.Status.TheVariants as statuses
-use Rattle.session_script.specs.Line.{HasSpelling, IsContentType}
-use Rattle.session_script.specs.Status.{is_told, is_end}
-use Rattle.session_script.specs.Status.{is_broken as has_broken_word}
+use Rattle.session_script.specs.Line.{HasSpelling}
+use Rattle.text_fields.specs.Kind.{IsContentType}
+use Rattle.text_fields.specs.Status.{is_told, is_end}
+use Rattle.text_fields.specs.Status.{is_broken as has_broken_word}
 use Rattle.session_script.specs.declared.event.Event.{Event}
 use Rattle.session_script.specs.declared.event.Event.TheVariants as events
 use Rattle.session_script.specs.declared.event.Part.{Part}

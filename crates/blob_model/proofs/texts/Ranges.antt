@@ -11,7 +11,8 @@ use Rattle.blob_words.specs.declared.plan.Plan.{Plan}
 use Rattle.blob_words.specs.declared.status.Status.{Status}
 use Rattle.blob_words.specs.declared.status.Status.TheVariants as statuses
 use Rattle.slice_rule.specs.Kind.{is_kept, kept_type}
-use Rattle.session_script.specs.Line.{HasSpelling, IsContentType, PartHasText}
+use Rattle.session_script.specs.Line.{HasSpelling, PartHasText}
+use Rattle.text_fields.specs.Kind.{IsContentType}
 use Rattle.session_script.specs.declared.event.Event.{Event}
 use Rattle.session_script.specs.declared.event.Event.TheVariants as events
 use Rattle.session_script.specs.declared.event.Part.{Part}

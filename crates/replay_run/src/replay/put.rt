@@ -9,7 +9,7 @@ use crate::refusal_line::RefusalLine;
 use blob_source::Sink;
 use blob_words::Failed;
 use session_script::LineFault;
-use session_script::stream::stream;
+use text_fields::stream::stream;
 
 /// Writes that the line of this number is refused, and why.
 pub fn refuse<K: Sink>(number: u32, reason: Reason, out: &mut K) -> Ending

@@ -1,8 +1,8 @@
 use Rattle.std.proofs.Common.{ℕ, List, [], ◌∷◌, decimal, ap}
 use Rattle.blob_words.specs.declared.number.PieceNo.{PieceNo}
-use Rattle.session_script.specs.Fields.{fields}
-use Rattle.session_script.proofs.Each.{heads_then, heads_stop}
-use Rattle.session_script.proofs.Outputs.{put_as}
+use Rattle.text_fields.specs.Fields.{fields}
+use Rattle.text_fields.proofs.Each.{heads_then, heads_stop}
+use Rattle.text_fields.proofs.Outputs.{put_as}
 use Rattle.answer_text.specs.Text.{piece_fields}
 use Rattle.answer_text.proofs.answer_writer.put_paged_pieces.Goals as goal
 

@@ -1,5 +1,5 @@
 use Rattle.std.proofs.Common.{ℕ, List, subst}
-use Rattle.session_script.specs.Reading.{split}
+use Rattle.text_fields.specs.Reading.{split}
 use Rattle.answer_text.specs.Fault.{IsTally, Refuses}
 use Rattle.answer_text.proofs.GroupLemmas.{further_refused}
 use Rattle.answer_text.proofs.group_reader.read_further.Goals as goal

@@ -1,6 +1,6 @@
 use Rattle.std.proofs.Common.{ap}
 use Rattle.std.specs.List.{flat_map}
-use Rattle.session_script.proofs.Outputs.{word_then, word_stops}
+use Rattle.text_fields.proofs.Outputs.{word_then, word_stops}
 use Rattle.answer_text.specs.Text.{answer_line}
 use Rattle.answer_text.proofs.group_writer.put_behind.Goals as goal
 

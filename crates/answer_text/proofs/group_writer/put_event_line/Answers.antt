@@ -1,4 +1,4 @@
-use Rattle.session_script.proofs.Outputs.{puts_then, stops_early}
+use Rattle.text_fields.proofs.Outputs.{puts_then, stops_early}
 use Rattle.answer_text.proofs.group_writer.put_event_line.Goals as goal
 
 pub returns-in-Ok : goal.returns-in-Ok

@@ -1,7 +1,7 @@
 use Rattle.std.proofs.Common.{◌≡◌, ℕ, List, [], ◌∷◌, ap, ◌∙◌, Ok, Err}
-use Rattle.session_script.specs.Fields.{fields}
-use Rattle.session_script.proofs.Each.{heads_then, heads_stop}
-use Rattle.session_script.proofs.Outputs.{put_as}
+use Rattle.text_fields.specs.Fields.{fields}
+use Rattle.text_fields.proofs.Each.{heads_then, heads_stop}
+use Rattle.text_fields.proofs.Outputs.{put_as}
 use Rattle.answer_text.specs.Text.{refusal_word_of, refusal_fields}
 use Rattle.answer_text.specs.Word.{refusal_text}
 use Rattle.answer_text.proofs.refusals.put_refusal.Goals as goal

@@ -1,5 +1,5 @@
 use Rattle.std.proofs.Common.{sym, subst}
-use Rattle.session_script.specs.Kind.{AllSpell}
+use Rattle.text_fields.specs.Kind.{AllSpell}
 use Rattle.answer_text.specs.Fault.{Refuses}
 use Rattle.answer_text.proofs.RowLemmas.{row_refused}
 use Rattle.answer_text.proofs.rows.read_row.Goals as goal

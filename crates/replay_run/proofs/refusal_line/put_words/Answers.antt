@@ -1,6 +1,6 @@
 use Rattle.std.proofs.Common.{◌∷◌, [], ap, decimal}
-use Rattle.session_script.specs.Fields.{fields}
-use Rattle.session_script.proofs.Outputs.{puts_then, put_as, stops_early}
+use Rattle.text_fields.specs.Fields.{fields}
+use Rattle.text_fields.proofs.Outputs.{puts_then, put_as, stops_early}
 use Rattle.replay_run.proofs.refusal_line.put_words.Goals as goal
 
 pub returns-in-Ok : goal.returns-in-Ok

@@ -1,6 +1,6 @@
 use Rattle.std.proofs.Common.{sym, ◌∙◌}
 use Rattle.session_script.proofs.Lines.{line_read, line_refused}
-use Rattle.session_script.proofs.Splits.{split_not_empty}
+use Rattle.text_fields.proofs.Splits.{split_not_empty}
 use Rattle.session_script.proofs.line.read_line.Goals as goal
 
 pub returns-in_default-clause-read : goal.returns-in_default-clause-read

@@ -1,10 +1,10 @@
 use Rattle.std.proofs.Common.{ℕ, List, [], ◌∷◌, map, decimal, ap}
 use Rattle.blob_words.specs.BlobName.{name_text}
-use Rattle.session_script.specs.Fields.{fields, hex_text}
+use Rattle.text_fields.specs.Fields.{fields, hex_text}
 use Rattle.session_script.specs.declared.event.Part.{Part}
 use Rattle.session_script.specs.Line.{part_text}
-use Rattle.session_script.proofs.Each.{heads_then, heads_stop}
-use Rattle.session_script.proofs.Outputs.{put_as}
+use Rattle.text_fields.proofs.Each.{heads_then, heads_stop}
+use Rattle.text_fields.proofs.Outputs.{put_as}
 use Rattle.session_script.proofs.print.put_build.Goals as goal
 
 pub returns-in-Ok : goal.returns-in-Ok

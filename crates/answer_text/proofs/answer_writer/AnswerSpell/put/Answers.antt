@@ -1,5 +1,5 @@
 use Rattle.std.proofs.Common.{ap, ◌∙◌}
-use Rattle.session_script.proofs.Outputs.{word_then, word_stops}
+use Rattle.text_fields.proofs.Outputs.{word_then, word_stops}
 use Rattle.answer_text.specs.Word.{word_text}
 use Rattle.answer_text.proofs.answer_writer.AnswerSpell.put.Goals as goal
 

@@ -1,4 +1,4 @@
-use Rattle.session_script.proofs.Outputs.{puts_then, stops_early}
+use Rattle.text_fields.proofs.Outputs.{puts_then, stops_early}
 use Rattle.replay_run.proofs.refusal_line.RefusalLineSpell.put.Goals as goal
 
 pub returns-in-Ok : goal.returns-in-Ok

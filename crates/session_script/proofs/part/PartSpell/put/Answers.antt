@@ -1,6 +1,6 @@
 use Rattle.std.proofs.Common.{ap, ◌∙◌}
 use Rattle.session_script.specs.Word.{letter_text}
-use Rattle.session_script.proofs.Outputs.{word_then, word_stops}
+use Rattle.text_fields.proofs.Outputs.{word_then, word_stops}
 use Rattle.session_script.proofs.part.PartSpell.put.Goals as goal
 
 pub returns-in-Ok : goal.returns-in-Ok

@@ -1,6 +1,0 @@
-use Rattle.std.proofs.Common.{inr, refl}
-use Rattle.session_script.specs.Kind.{Spells, name}
-use Rattle.session_script.proofs.field.name.BlobNameField.read.Goals as goal
-
-pub returns-in-Err : goal.returns-in-Err
-returns-in-Err c = inr (λ (s : Spells name c.args.text.now). c.in-Err.ensures.form s.0 s.1 s.2, refl)

@@ -1,9 +1,0 @@
-use Rattle.std.proofs.Common.{◌≡◌, ◌+◌, ◌≤◌, length}
-use Rattle.session_script.specs.Reading.{split}
-use Rattle.session_script.proofs.fields.count_fields.Given as goal
-
-abbrev pub invariant-loop-at : goal.invariant-loop-at
-invariant-loop-at l = (l.count + length (split l.separator l.rest) ≡ 1 + length (split l.separator l.text)) × (l.count + length l.rest ≤ 1 + length l.text)
-
-abbrev pub decreases-loop-at : goal.decreases-loop-at
-decreases-loop-at l = length l.rest

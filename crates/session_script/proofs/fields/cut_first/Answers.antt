@@ -1,6 +1,0 @@
-use Rattle.std.proofs.Common.{arith}
-use Rattle.session_script.proofs.Splits.{split_one}
-use Rattle.session_script.proofs.fields.cut_first.Goals as goal
-
-pub returns-then-count-eq1 : goal.returns-then-count-eq1
-returns-then-count-eq1 c = split_one c.args.separator c.args.text.now (omega (arith, c.requires, c.if-count-eq1.true))

@@ -1,8 +1,0 @@
-use Rattle.session_script.proofs.Outputs.{puts_then, stops_early}
-use Rattle.session_script.proofs.put.put_three.Goals as goal
-
-pub returns-in-Ok : goal.returns-in-Ok
-returns-in-Ok g c = puts_then _ _ _ _ _ _ c.in-Ok.ensures c.put_two.ensures
-
-pub returns-in-Err : goal.returns-in-Err
-returns-in-Err g c = stops_early _ _ _ _ c.in-Err.ensures

@@ -1,0 +1,12 @@
+pub mod Bytes
+pub mod Each
+pub mod Faults
+pub mod Hex
+pub mod Numbers
+pub mod Outputs
+pub mod Rows
+pub mod Single
+pub mod Spellings
+pub mod Splits
+pub mod Visible
+pub mod Words

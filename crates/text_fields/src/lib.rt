@@ -1,0 +1,14 @@
+//! The fields of a line of text: each value has one spelling, is read from it and put as it.
+#![tactic(auto)]
+
+pub mod buffer;
+pub mod field;
+pub mod fields;
+pub mod growing;
+pub mod line_fault;
+pub mod literal;
+pub mod put;
+pub mod row;
+pub mod stream;
+
+pub use line_fault::LineFault;
