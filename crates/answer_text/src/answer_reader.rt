@@ -16,12 +16,11 @@ use crate::rows::{read_job_pieces, read_paged_pieces, read_row};
 use crate::text_fault::TextFault;
 use blob_source::Sink;
 use blob_words::{BlobName, Failed, FileName, JobNo, PageNo, PieceList, PieceNo, ReaderId};
+use std::alloc::Global;
 use text_fields::LineFault;
 use text_fields::buffer::Buffer;
 use text_fields::field::{Broken, ContentType, Ending, SomeOctets, Spell, Told};
 use text_fields::fields::Fields;
-use text_fields::put::{put_each, put_five, put_four, put_one, put_three, put_two};
-use std::alloc::Global;
 
 fn read_good(fields: &Fields<'_>) -> Result<Answer, TextFault>
     ensures { ReadsAnswer AnswerWord.Good fields.now result }

@@ -2,7 +2,7 @@
 
 ghost use Rattle.std.specs.Prelude.{◌≡◌, ◌∷◌, decimal};
 ghost use Rattle.text_fields.specs.Fields.{fields};
-ghost use Rattle.text_fields.specs.Output.{output, IsPut};
+ghost use Rattle.text_fields.specs.Output.{IsPutTo};
 ghost use Rattle.answer_text.specs.Text.{word_of, answer_fields, answer_text, piece_fields};
 
 use crate::answer::Answer;
@@ -13,7 +13,8 @@ use blob_source::Sink;
 use blob_words::{Failed, JobNo, PageNo, PieceList};
 use text_fields::buffer::Buffer;
 use text_fields::field::{Broken, Ending, Spell, Told};
-use text_fields::put::{put_each, put_five, put_four, put_one, put_three, put_two};
+use text_fields::put::put_each;
+use text_fields::values::Values;
 
 fn word_of(answer: &Answer) -> AnswerWord
     ensures { result ≡ word_of answer.now }
@@ -60,9 +61,10 @@ fn put_job_pieces<K: Sink>(
     j: &JobNo,
     ps: &PieceList,
 ) -> Result<(), Failed>
-    ensures { IsPut (output (K.held out.old) (K.faults out.old) buffer.old) (output (K.held out.new) (K.faults out.new) buffer.new) (fields 32 (decimal j.now.0 ∷ piece_fields ps.now)) result }
+    ensures { IsPutTo K.held K.faults out.old out.new buffer.old buffer.new
+        (fields 32 (decimal j.now.0 ∷ piece_fields ps.now)) result }
 {
-    match put_one(buffer, out, b' ', j) {
+    match (j,).put_all(buffer, out, b' ') {
         Ok(()) => put_each(buffer, out, b' ', ps.as_slice()),
         Err(Failed) => Err(Failed),
     }
@@ -75,59 +77,61 @@ fn put_paged_pieces<K: Sink>(
     f: &PageNo,
     ps: &PieceList,
 ) -> Result<(), Failed>
-    ensures { IsPut (output (K.held out.old) (K.faults out.old) buffer.old) (output (K.held out.new) (K.faults out.new) buffer.new) (fields 32 (decimal j.now.0 ∷ decimal f.now.0 ∷ piece_fields ps.now)) result }
+    ensures { IsPutTo K.held K.faults out.old out.new buffer.old buffer.new
+        (fields 32 (decimal j.now.0 ∷ decimal f.now.0 ∷ piece_fields ps.now)) result }
 {
-    match put_two(buffer, out, b' ', j, f) {
+    match (j, f).put_all(buffer, out, b' ') {
         Ok(()) => put_each(buffer, out, b' ', ps.as_slice()),
         Err(Failed) => Err(Failed),
     }
 }
 
 fn put_behind<K: Sink>(buffer: &mut Buffer, out: &mut K, answer: &Answer) -> Result<(), Failed>
-    ensures { IsPut (output (K.held out.old) (K.faults out.old) buffer.old) (output (K.held out.new) (K.faults out.new) buffer.new) (fields 32 (answer_fields answer.now)) result }
+    ensures { IsPutTo K.held K.faults out.old out.new buffer.old buffer.new
+        (fields 32 (answer_fields answer.now)) result }
 {
     match answer {
         Answer::Good => Ok(()),
         Answer::Refused(refusal) => put_refusal(buffer, out, refusal),
         Answer::Planned(plan) => put_plan(buffer, out, *plan),
-        Answer::Broken(b, status) => put_two(buffer, out, b' ', b, &Broken(*status)),
-        Answer::Taken(seg) => put_one(buffer, out, b' ', seg),
-        Answer::Stored(f, p) => put_two(buffer, out, b' ', f, p),
-        Answer::StoreFailed(f) => put_one(buffer, out, b' ', f),
+        Answer::Broken(b, status) => (b, Broken(*status)).put_all(buffer, out, b' '),
+        Answer::Taken(seg) => (seg,).put_all(buffer, out, b' '),
+        Answer::Stored(f, p) => (f, p).put_all(buffer, out, b' '),
+        Answer::StoreFailed(f) => (f,).put_all(buffer, out, b' '),
         Answer::Told {
             b,
             size,
             kind,
             status,
-        } => put_four(buffer, out, b' ', b, size, kind, &Told(*status)),
+        } => (b, size, kind, Told(*status)).put_all(buffer, out, b' '),
         Answer::Revoked => Ok(()),
         Answer::Nothing => Ok(()),
-        Answer::Opened { q, size, kind } => put_three(buffer, out, b' ', q, size, kind),
-        Answer::Given(q, octets) => put_two(buffer, out, b' ', q, octets),
-        Answer::Wait(q) => put_one(buffer, out, b' ', q),
-        Answer::Ended(q, status) => put_two(buffer, out, b' ', q, &Ending(*status)),
-        Answer::FileChanged(q, file) => put_two(buffer, out, b' ', q, file),
-        Answer::PageFault(q, f) => put_two(buffer, out, b' ', q, f),
-        Answer::HandleFailed(q, k) => put_two(buffer, out, b' ', q, k),
+        Answer::Opened { q, size, kind } => (q, size, kind).put_all(buffer, out, b' '),
+        Answer::Given(q, octets) => (q, octets).put_all(buffer, out, b' '),
+        Answer::Wait(q) => (q,).put_all(buffer, out, b' '),
+        Answer::Ended(q, status) => (q, Ending(*status)).put_all(buffer, out, b' '),
+        Answer::FileChanged(q, file) => (q, file).put_all(buffer, out, b' '),
+        Answer::PageFault(q, f) => (q, f).put_all(buffer, out, b' '),
+        Answer::HandleFailed(q, k) => (q, k).put_all(buffer, out, b' '),
         Answer::Paged(j, f, ps) => put_paged_pieces(buffer, out, j, f, ps),
-        Answer::Empty(j) => put_one(buffer, out, b' ', j),
-        Answer::PageFailed(j, f) => put_two(buffer, out, b' ', j, f),
+        Answer::Empty(j) => (j,).put_all(buffer, out, b' '),
+        Answer::PageFailed(j, f) => (j, f).put_all(buffer, out, b' '),
         Answer::Moved(j, f, ps) => put_paged_pieces(buffer, out, j, f, ps),
-        Answer::MoveFailed(j, f) => put_two(buffer, out, b' ', j, f),
-        Answer::MoveUnread(j, f) => put_two(buffer, out, b' ', j, f),
-        Answer::LostJob(j) => put_one(buffer, out, b' ', j),
+        Answer::MoveFailed(j, f) => (j, f).put_all(buffer, out, b' '),
+        Answer::MoveUnread(j, f) => (j, f).put_all(buffer, out, b' '),
+        Answer::LostJob(j) => (j,).put_all(buffer, out, b' '),
         Answer::Held {
             blobs,
             urls,
             readers,
             waiting,
             paging,
-        } => put_five(buffer, out, b' ', blobs, urls, readers, waiting, paging),
-        Answer::Dropped(b) => put_one(buffer, out, b' ', b),
-        Answer::Done(b) => put_one(buffer, out, b' ', b),
-        Answer::Removed(f) => put_one(buffer, out, b' ', f),
-        Answer::Left(f) => put_one(buffer, out, b' ', f),
-        Answer::Granted(b) => put_one(buffer, out, b' ', b),
+        } => (blobs, urls, readers, waiting, paging).put_all(buffer, out, b' '),
+        Answer::Dropped(b) => (b,).put_all(buffer, out, b' '),
+        Answer::Done(b) => (b,).put_all(buffer, out, b' '),
+        Answer::Removed(f) => (f,).put_all(buffer, out, b' '),
+        Answer::Left(f) => (f,).put_all(buffer, out, b' '),
+        Answer::Granted(b) => (b,).put_all(buffer, out, b' '),
         Answer::Job(j, ps) => put_job_pieces(buffer, out, j, ps),
         Answer::Compacting(j, f, ps) => put_paged_pieces(buffer, out, j, f, ps),
     }

@@ -17,9 +17,9 @@ use crate::lines::Lines;
 use crate::rows::{form_of, read_row};
 use crate::text_fault::TextFault;
 use blob_words::Tally;
-use text_fields::fields::Fields;
 use session_script::{Event, read_line};
 use std::alloc::Global;
+use text_fields::fields::Fields;
 
 fn read_event_line(alloc: Global, line: &[u8]) -> Result<Event, TextFault>
     ensures { ReadsEventLine line.now result }

@@ -2,7 +2,7 @@
 
 ghost use Rattle.std.specs.Prelude.{◌≡◌, ◌++◌, codes, OnOk, OnErr};
 ghost use Rattle.std.specs.List.{flat_map};
-ghost use Rattle.text_fields.specs.Output.{output, IsPut, IsStreamed};
+ghost use Rattle.text_fields.specs.Output.{IsPutTo, IsStreamed};
 ghost use Rattle.answer_text.specs.Text.{answer_line, event_line, group_text, tally_line, tally_text};
 
 use crate::answer::Answers;
@@ -10,14 +10,16 @@ use crate::group::Group;
 use blob_source::Sink;
 use blob_words::{Failed, NoMemory, Octets, Tally};
 use session_script::Event;
+use std::alloc::Global;
 use text_fields::buffer::Buffer;
 use text_fields::field::Spell;
-use text_fields::put::{put_four, put_line, put_lines};
+use text_fields::put::{put_line, put_lines};
 use text_fields::stream::{print, stream};
-use std::alloc::Global;
+use text_fields::values::Values;
 
 fn put_event_line<K: Sink>(buffer: &mut Buffer, out: &mut K, event: &Event) -> Result<(), Failed>
-    ensures { IsPut (output (K.held out.old) (K.faults out.old) buffer.old) (output (K.held out.new) (K.faults out.new) buffer.new) (event_line event.now) result }
+    ensures { IsPutTo K.held K.faults out.old out.new buffer.old buffer.new
+        (event_line event.now) result }
 {
     match buffer.put(out, b"> ") {
         Ok(()) => put_line(buffer, out, event),
@@ -26,24 +28,18 @@ fn put_event_line<K: Sink>(buffer: &mut Buffer, out: &mut K, event: &Event) -> R
 }
 
 fn put_numbers<K: Sink>(buffer: &mut Buffer, out: &mut K, tally: &Tally) -> Result<(), Failed>
-    ensures { IsPut (output (K.held out.old) (K.faults out.old) buffer.old) (output (K.held out.new) (K.faults out.new) buffer.new) (tally_text tally.now) result }
+    ensures { IsPutTo K.held K.faults out.old out.new buffer.old buffer.new
+        (tally_text tally.now) result }
 {
     match buffer.put_byte(out, b'=') {
-        Ok(()) => put_four(
-            buffer,
-            out,
-            b' ',
-            &tally.pieces,
-            &tally.memory,
-            &tally.files,
-            &tally.disk,
-        ),
+        Ok(()) => (tally.pieces, tally.memory, tally.files, tally.disk).put_all(buffer, out, b' '),
         Err(Failed) => Err(Failed),
     }
 }
 
 fn put_tally_line<K: Sink>(buffer: &mut Buffer, out: &mut K, tally: &Tally) -> Result<(), Failed>
-    ensures { IsPut (output (K.held out.old) (K.faults out.old) buffer.old) (output (K.held out.new) (K.faults out.new) buffer.new) (tally_line tally.now) result }
+    ensures { IsPutTo K.held K.faults out.old out.new buffer.old buffer.new
+        (tally_line tally.now) result }
 {
     match put_numbers(buffer, out, tally) {
         Ok(()) => buffer.put_byte(out, b'\n'),
@@ -57,7 +53,8 @@ fn put_behind<K: Sink>(
     answers: &Answers,
     tally: &Tally,
 ) -> Result<(), Failed>
-    ensures { IsPut (output (K.held out.old) (K.faults out.old) buffer.old) (output (K.held out.new) (K.faults out.new) buffer.new) (flat_map answer_line answers.now ++ tally_line tally.now) result }
+    ensures { IsPutTo K.held K.faults out.old out.new buffer.old buffer.new
+        (flat_map answer_line answers.now ++ tally_line tally.now) result }
 {
     match put_lines(buffer, out, answers.as_slice()) {
         Ok(()) => put_tally_line(buffer, out, tally),

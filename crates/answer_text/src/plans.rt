@@ -2,21 +2,21 @@
 
 ghost use Rattle.std.specs.Prelude.{◌≡◌, ◌∷◌};
 ghost use Rattle.text_fields.specs.Fields.{fields};
-ghost use Rattle.text_fields.specs.Output.{output, IsPut};
+ghost use Rattle.text_fields.specs.Output.{IsPutTo};
 ghost use Rattle.answer_text.specs.Fault.{IsPlan, ReadsAs};
 ghost use Rattle.answer_text.specs.Text.{plan_fields, PlanHasText};
 ghost use Rattle.answer_text.specs.Word.{plan_text};
 
-use text_fields::literal::Literal;
 use crate::plan_word::PlanWord;
 use crate::rows::read_row;
 use crate::text_fault::TextFault;
 use blob_source::Sink;
 use blob_words::{Failed, Plan};
+use std::alloc::Global;
 use text_fields::buffer::Buffer;
 use text_fields::fields::Fields;
-use text_fields::put::{put_one, put_two};
-use std::alloc::Global;
+use text_fields::literal::Literal;
+use text_fields::values::Values;
 
 fn read_behind(alloc: Global, word: PlanWord, fields: &mut Fields<'_>) -> Result<Plan, TextFault>
     ensures { ReadsAs IsPlan PlanHasText plan_fields (plan_text word ∷ fields.old) result }
@@ -60,13 +60,14 @@ pub fn read_plan(alloc: Global, fields: &mut Fields<'_>) -> Result<Plan, TextFau
 
 /// Puts the plan's words, each behind a space; nothing for what is no plan that a blob has.
 pub fn put_plan<K: Sink>(buffer: &mut Buffer, out: &mut K, plan: Plan) -> Result<(), Failed>
-    ensures { IsPut (output (K.held out.old) (K.faults out.old) buffer.old) (output (K.held out.new) (K.faults out.new) buffer.new) (fields 32 (plan_fields plan)) result }
+    ensures { IsPutTo K.held K.faults out.old out.new buffer.old buffer.new
+        (fields 32 (plan_fields plan)) result }
 {
     match plan {
-        Plan::None => put_one(buffer, out, b' ', &Literal { text: b"none" }),
-        Plan::Inline => put_one(buffer, out, b' ', &Literal { text: b"inline" }),
-        Plan::Shared(n) => put_two(buffer, out, b' ', &Literal { text: b"shared" }, &n),
-        Plan::File(n) => put_two(buffer, out, b' ', &Literal { text: b"file" }, &n),
+        Plan::None => (Literal { text: b"none" },).put_all(buffer, out, b' '),
+        Plan::Inline => (Literal { text: b"inline" },).put_all(buffer, out, b' '),
+        Plan::Shared(n) => (Literal { text: b"shared" }, n).put_all(buffer, out, b' '),
+        Plan::File(n) => (Literal { text: b"file" }, n).put_all(buffer, out, b' '),
         Plan::OutOfMemory => Ok(()),
         Plan::TooMany(_) => Ok(()),
     }

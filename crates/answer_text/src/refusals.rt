@@ -3,25 +3,25 @@
 ghost use Rattle.std.specs.Prelude.{◌≡◌, ◌≢◌, [], ◌∷◌, MatchOption};
 ghost use Rattle.blob_words.specs.declared.counted.Counted.{Counted as ACounted};
 ghost use Rattle.text_fields.specs.Fields.{fields};
-ghost use Rattle.text_fields.specs.Output.{output, IsPut};
+ghost use Rattle.text_fields.specs.Output.{IsPutTo};
 ghost use Rattle.answer_text.specs.Word.{counted_fields};
 ghost use Rattle.answer_text.specs.Fault.{IsRefusal, ReadsAs};
 ghost use Rattle.answer_text.specs.Reading.{ReadsRefusal};
 ghost use Rattle.answer_text.specs.Text.{refusal_word_of, refusal_fields, RefusalHasText};
 ghost use Rattle.answer_text.specs.Word.{refusal_text};
 
-use text_fields::literal::Literal;
 use crate::refusal::Refusal;
 use crate::refusal_word::RefusalWord;
 use crate::rows::read_row;
 use crate::text_fault::TextFault;
 use blob_source::Sink;
 use blob_words::{BlobName, Counted, Failed, JobNo, ReaderId, RendererId};
+use std::alloc::Global;
 use text_fields::buffer::Buffer;
 use text_fields::field::Spell;
 use text_fields::fields::Fields;
-use text_fields::put::{put_one, put_two};
-use std::alloc::Global;
+use text_fields::literal::Literal;
+use text_fields::values::Values;
 
 fn read_no_renderer(alloc: Global, fields: &mut Fields<'_>) -> Result<Refusal, TextFault>
     ensures { ReadsRefusal RefusalWord.NoRenderer fields.old result }
@@ -341,40 +341,36 @@ fn word_of(refusal: &Refusal) -> RefusalWord
 }
 
 fn put_counted<K: Sink>(buffer: &mut Buffer, out: &mut K, counted: Counted) -> Result<(), Failed>
-    ensures { IsPut (output (K.held out.old) (K.faults out.old) buffer.old) (output (K.held out.new) (K.faults out.new) buffer.new) (fields 32 (counted_fields counted)) result }
+    ensures { IsPutTo K.held K.faults out.old out.new buffer.old buffer.new
+        (fields 32 (counted_fields counted)) result }
 {
     let (word, limit) = counted_texts(counted);
-    put_two(
-        buffer,
-        out,
-        b' ',
-        &Literal { text: word },
-        &Literal { text: limit },
-    )
+    (Literal { text: word }, Literal { text: limit }).put_all(buffer, out, b' ')
 }
 
 fn put_behind<K: Sink>(buffer: &mut Buffer, out: &mut K, refusal: &Refusal) -> Result<(), Failed>
-    ensures { IsPut (output (K.held out.old) (K.faults out.old) buffer.old) (output (K.held out.new) (K.faults out.new) buffer.new) (fields 32 (refusal_fields refusal.now)) result }
+    ensures { IsPutTo K.held K.faults out.old out.new buffer.old buffer.new
+        (fields 32 (refusal_fields refusal.now)) result }
 {
     match refusal {
-        Refusal::NoRenderer(r) => put_one(buffer, out, b' ', r),
-        Refusal::RendererUsed(r) => put_one(buffer, out, b' ', r),
-        Refusal::NameUsed(b) => put_one(buffer, out, b' ', b),
-        Refusal::NoHandle(r, b) => put_two(buffer, out, b' ', r, b),
-        Refusal::NoSuchHandle(k) => put_one(buffer, out, b' ', k),
-        Refusal::HandleTaken(k) => put_one(buffer, out, b' ', k),
-        Refusal::NoTransport(b) => put_one(buffer, out, b' ', b),
-        Refusal::BadSegment(n) => put_one(buffer, out, b' ', n),
-        Refusal::SegmentTaken(n) => put_one(buffer, out, b' ', n),
-        Refusal::SegmentLength(n) => put_one(buffer, out, b' ', n),
-        Refusal::ReaderUsed(q) => put_one(buffer, out, b' ', q),
-        Refusal::NoReader(q) => put_one(buffer, out, b' ', q),
-        Refusal::Range(size) => put_one(buffer, out, b' ', size),
+        Refusal::NoRenderer(r) => (r,).put_all(buffer, out, b' '),
+        Refusal::RendererUsed(r) => (r,).put_all(buffer, out, b' '),
+        Refusal::NameUsed(b) => (b,).put_all(buffer, out, b' '),
+        Refusal::NoHandle(r, b) => (r, b).put_all(buffer, out, b' '),
+        Refusal::NoSuchHandle(k) => (k,).put_all(buffer, out, b' '),
+        Refusal::HandleTaken(k) => (k,).put_all(buffer, out, b' '),
+        Refusal::NoTransport(b) => (b,).put_all(buffer, out, b' '),
+        Refusal::BadSegment(n) => (n,).put_all(buffer, out, b' '),
+        Refusal::SegmentTaken(n) => (n,).put_all(buffer, out, b' '),
+        Refusal::SegmentLength(n) => (n,).put_all(buffer, out, b' '),
+        Refusal::ReaderUsed(q) => (q,).put_all(buffer, out, b' '),
+        Refusal::NoReader(q) => (q,).put_all(buffer, out, b' '),
+        Refusal::Range(size) => (size,).put_all(buffer, out, b' '),
         Refusal::UrlForm => Ok(()),
         Refusal::UrlTaken => Ok(()),
         Refusal::NoUrl => Ok(()),
-        Refusal::NoJob(j) => put_one(buffer, out, b' ', j),
-        Refusal::StaleStamp(last) => put_one(buffer, out, b' ', last),
+        Refusal::NoJob(j) => (j,).put_all(buffer, out, b' '),
+        Refusal::StaleStamp(last) => (last,).put_all(buffer, out, b' '),
         Refusal::NoFile => Ok(()),
         Refusal::TooMany(counted) => put_counted(buffer, out, *counted),
         Refusal::LimitsAgain => Ok(()),
@@ -387,16 +383,16 @@ pub fn put_refusal<K: Sink>(
     out: &mut K,
     refusal: &Refusal,
 ) -> Result<(), Failed>
-    ensures { IsPut (output (K.held out.old) (K.faults out.old) buffer.old) (output (K.held out.new) (K.faults out.new) buffer.new) (fields 32 (refusal_text (refusal_word_of refusal.now) ∷ refusal_fields refusal.now)) result }
+    ensures { IsPutTo K.held K.faults out.old out.new buffer.old buffer.new
+        (fields 32 (refusal_text (refusal_word_of refusal.now) ∷ refusal_fields refusal.now)) result }
 {
-    match put_one(
-        buffer,
-        out,
-        b' ',
-        &Literal {
+    match (
+        Literal {
             text: word_of(refusal).text(),
         },
-    ) {
+    )
+        .put_all(buffer, out, b' ')
+    {
         Ok(()) => put_behind(buffer, out, refusal),
         Err(Failed) => Err(Failed),
     }

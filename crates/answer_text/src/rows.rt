@@ -7,10 +7,10 @@ ghost use Rattle.answer_text.specs.Text.{piece_fields, PiecesHaveText};
 
 use crate::text_fault::TextFault;
 use blob_words::{JobNo, PageNo, PieceList, PieceNo};
+use std::alloc::Global;
 use text_fields::LineFault;
 use text_fields::fields::Fields;
 use text_fields::row::Row;
-use std::alloc::Global;
 
 /// What a fault of a field means for an answer: want of memory, or no such text.
 pub fn form_of(fault: LineFault) -> TextFault

@@ -2,16 +2,16 @@
 
 ghost use Rattle.std.specs.Prelude.{◌≡◌, ◌∷◌, [], codes, decimal};
 ghost use Rattle.text_fields.specs.Fields.{joined};
-ghost use Rattle.text_fields.specs.Output.{output, IsPut};
+ghost use Rattle.text_fields.specs.Output.{IsPutTo};
 ghost use Rattle.replay_run.specs.Reason.{reason_text};
 
 use crate::reason::Reason;
-use answer_text::literal::Literal;
 use blob_source::Sink;
 use blob_words::Failed;
 use text_fields::buffer::Buffer;
 use text_fields::field::Spell;
-use text_fields::put::put_two;
+use text_fields::literal::Literal;
+use text_fields::values::Values;
 
 /// `!`, the number of the line that was refused, from 1, and why.
 #[derive(Clone, Copy, Debug, PartialEq, Eq)]
@@ -21,13 +21,14 @@ pub struct RefusalLine {
 }
 
 fn put_words<K: Sink>(buffer: &mut Buffer, out: &mut K, line: &RefusalLine) -> Result<(), Failed>
-    ensures { IsPut (output (K.held out.old) (K.faults out.old) buffer.old) (output (K.held out.new) (K.faults out.new) buffer.new) (joined 32 (codes "!" ∷ decimal line.now.number ∷ reason_text line.now.reason ∷ [])) result }
+    ensures { IsPutTo K.held K.faults out.old out.new buffer.old buffer.new
+        (joined 32 (codes "!" ∷ decimal line.now.number ∷ reason_text line.now.reason ∷ [])) result }
 {
     let word = Literal {
         text: line.reason.text(),
     };
     match buffer.put_byte(out, b'!') {
-        Ok(()) => put_two(buffer, out, b' ', &line.number, &word),
+        Ok(()) => (line.number, word).put_all(buffer, out, b' '),
         Err(Failed) => Err(Failed),
     }
 }

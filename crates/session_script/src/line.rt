@@ -9,16 +9,16 @@ ghost use Rattle.session_script.specs.declared.event.Event.{Event as AnEvent};
 ghost use Rattle.text_fields.specs.declared.line_fault.LineFault.TheVariants.{Memory};
 
 use crate::event::Event;
-use text_fields::field::ContentType;
-use text_fields::fields::Fields;
-use text_fields::LineFault;
 use crate::part::read_parts;
-use text_fields::row::Row;
 use crate::word::Word;
 use blob_words::{
     BlobName, FileName, JobNo, Limits, Octets, Origin, ReaderId, RendererId, UrlText,
 };
 use std::alloc::Global;
+use text_fields::LineFault;
+use text_fields::field::ContentType;
+use text_fields::fields::Fields;
+use text_fields::row::Row;
 
 /// The most parts of a blob.
 const MAX_PARTS: usize = 1024;

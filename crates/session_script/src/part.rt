@@ -6,19 +6,19 @@ ghost use Rattle.session_script.specs.Fault.{kinds_of_letter, IsPart, IsPartFaul
 ghost use Rattle.text_fields.specs.Fields.{fields};
 ghost use Rattle.text_fields.specs.Kind.{IsRowFault};
 ghost use Rattle.session_script.specs.Line.{letter_of, part_fields, part_text, PartHasText};
-ghost use Rattle.text_fields.specs.Output.{output, IsPut};
+ghost use Rattle.text_fields.specs.Output.{IsPutTo};
 ghost use Rattle.text_fields.specs.Reading.{split, IsReading};
 
-use text_fields::buffer::Buffer;
 use crate::event::{Part, Parts};
-use text_fields::field::{Positive, Spell};
-use text_fields::fields::Fields;
 use crate::letter::Letter;
-use text_fields::LineFault;
-use text_fields::put::{put_four, put_one, put_three};
 use blob_source::Sink;
 use blob_words::{BlobName, Failed, FileName, Octets};
 use std::alloc::Global;
+use text_fields::LineFault;
+use text_fields::buffer::Buffer;
+use text_fields::field::{Positive, Spell};
+use text_fields::fields::Fields;
+use text_fields::values::Values;
 
 fn read_embedded(alloc: Global, fields: &mut Fields<'_>) -> Result<Part, LineFault>
     ensures { IsReading (IsRowFault (kinds_of_letter Letter.Embedded)) (λ part. PartHasText part × (letter_of part ≡ Letter.Embedded)) part_fields fields.old result }
@@ -130,19 +130,20 @@ fn letter_of(part: &Part) -> Letter
 }
 
 fn put_behind<K: Sink>(buffer: &mut Buffer, out: &mut K, part: &Part) -> Result<(), Failed>
-    ensures { IsPut (output (K.held out.old) (K.faults out.old) buffer.old) (output (K.held out.new) (K.faults out.new) buffer.new) (fields 58 (part_fields part.now)) result }
+    ensures { IsPutTo K.held K.faults out.old out.new buffer.old buffer.new
+        (fields 58 (part_fields part.now)) result }
 {
     match part {
-        Part::Embedded(bytes) => put_one(buffer, out, b':', bytes),
-        Part::Asked(len) => put_one(buffer, out, b':', len),
+        Part::Embedded(bytes) => (bytes,).put_all(buffer, out, b':'),
+        Part::Asked(len) => (len,).put_all(buffer, out, b':'),
         Part::FileRange {
             name,
             off,
             len,
             stamp,
-        } => put_four(buffer, out, b':', name, off, len, stamp),
-        Part::BlobRange { b, off, len } => put_three(buffer, out, b':', b, off, len),
-        Part::HandleRange { k, off, len } => put_three(buffer, out, b':', k, off, len),
+        } => (name, off, len, stamp).put_all(buffer, out, b':'),
+        Part::BlobRange { b, off, len } => (b, off, len).put_all(buffer, out, b':'),
+        Part::HandleRange { k, off, len } => (k, off, len).put_all(buffer, out, b':'),
     }
 }
 

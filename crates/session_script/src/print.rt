@@ -4,17 +4,18 @@ ghost use Rattle.std.specs.Prelude.{◌≡◌, ◌++◌, ◌≤◌, map, decimal
 ghost use Rattle.blob_source.specs.Faults.{Rose};
 ghost use Rattle.text_fields.specs.Fields.{fields};
 ghost use Rattle.session_script.specs.Line.{limit_numbers, word_of, event_fields, line_of};
-ghost use Rattle.text_fields.specs.Output.{output, IsPut, IsStreamed};
+ghost use Rattle.text_fields.specs.Output.{IsPutTo, IsStreamed};
 
-use text_fields::buffer::Buffer;
 use crate::event::{Event, Parts};
-use text_fields::field::Spell;
-use text_fields::put::{put_each, put_five, put_four, put_one, put_seven, put_six, put_three, put_two};
-use text_fields::stream::{print, stream};
 use crate::word::Word;
 use blob_source::Sink;
 use blob_words::{BlobName, Failed, Limits, NoMemory, Octets, RendererId};
 use std::alloc::Global;
+use text_fields::buffer::Buffer;
+use text_fields::field::Spell;
+use text_fields::put::put_each;
+use text_fields::stream::{print, stream};
+use text_fields::values::Values;
 
 fn word_of(event: &Event) -> Word
     ensures { result ≡ word_of event.now }
@@ -46,20 +47,19 @@ fn word_of(event: &Event) -> Word
 }
 
 fn put_limits<K: Sink>(buffer: &mut Buffer, out: &mut K, limits: &Limits) -> Result<(), Failed>
-    ensures { IsPut (output (K.held out.old) (K.faults out.old) buffer.old) (output (K.held out.new) (K.faults out.new) buffer.new) (fields 32 (map decimal (limit_numbers limits.now))) result }
+    ensures { IsPutTo K.held K.faults out.old out.new buffer.old buffer.new
+        (fields 32 (map decimal (limit_numbers limits.now))) result }
 {
-    put_seven(
-        buffer,
-        out,
-        b' ',
-        &limits.memory,
-        &limits.disk,
-        &limits.big,
-        &limits.inline_max,
-        &limits.segment,
-        &limits.page,
-        &limits.chunk,
+    (
+        limits.memory,
+        limits.disk,
+        limits.big,
+        limits.inline_max,
+        limits.segment,
+        limits.page,
+        limits.chunk,
     )
+        .put_all(buffer, out, b' ')
 }
 
 fn put_build<K: Sink>(
@@ -70,24 +70,26 @@ fn put_build<K: Sink>(
     kind: &Octets,
     parts: &Parts,
 ) -> Result<(), Failed>
-    ensures { IsPut (output (K.held out.old) (K.faults out.old) buffer.old) (output (K.held out.new) (K.faults out.new) buffer.new) (fields 32 (event_fields (Event.Build r.now b.now kind.now parts.now))) result }
+    ensures { IsPutTo K.held K.faults out.old out.new buffer.old buffer.new
+        (fields 32 (event_fields (Event.Build r.now b.now kind.now parts.now))) result }
 {
-    match put_three(buffer, out, b' ', r, b, kind) {
+    match (r, b, kind).put_all(buffer, out, b' ') {
         Ok(()) => put_each(buffer, out, b' ', parts.as_slice()),
         Err(Failed) => Err(Failed),
     }
 }
 
 fn put_own<K: Sink>(buffer: &mut Buffer, out: &mut K, event: &Event) -> Result<(), Failed>
-    ensures { IsPut (output (K.held out.old) (K.faults out.old) buffer.old) (output (K.held out.new) (K.faults out.new) buffer.new) (fields 32 (event_fields event.now)) result }
+    ensures { IsPutTo K.held K.faults out.old out.new buffer.old buffer.new
+        (fields 32 (event_fields event.now)) result }
 {
     match event {
         Event::Limits(limits) => put_limits(buffer, out, limits),
         Event::Limits2(limits) => put_limits(buffer, out, limits),
-        Event::Spawn { r, origin } => put_two(buffer, out, b' ', r, origin),
-        Event::Die { r } => put_one(buffer, out, b' ', r),
-        Event::File { name, stamp, bytes } => put_three(buffer, out, b' ', name, stamp, bytes),
-        Event::Gone { name } => put_one(buffer, out, b' ', name),
+        Event::Spawn { r, origin } => (r, origin).put_all(buffer, out, b' '),
+        Event::Die { r } => (r,).put_all(buffer, out, b' '),
+        Event::File { name, stamp, bytes } => (name, stamp, bytes).put_all(buffer, out, b' '),
+        Event::Gone { name } => (name,).put_all(buffer, out, b' '),
         Event::Slice {
             r,
             b,
@@ -95,25 +97,25 @@ fn put_own<K: Sink>(buffer: &mut Buffer, out: &mut K, event: &Event) -> Result<(
             start,
             end,
             kind,
-        } => put_six(buffer, out, b' ', r, b, src, start, end, kind),
-        Event::Segment { r, b, seg, bytes } => put_four(buffer, out, b' ', r, b, seg, bytes),
-        Event::Pass { r, to, b } => put_three(buffer, out, b' ', r, to, b),
-        Event::Drop { r, b } => put_two(buffer, out, b' ', r, b),
-        Event::Stat { r, b } => put_two(buffer, out, b' ', r, b),
-        Event::Url { r, b, text } => put_three(buffer, out, b' ', r, b, text),
-        Event::Revoke { r, text } => put_two(buffer, out, b' ', r, text),
-        Event::Read { r, q, b, off, len } => put_five(buffer, out, b' ', r, q, b, off, len),
+        } => (r, b, src, start, end, kind).put_all(buffer, out, b' '),
+        Event::Segment { r, b, seg, bytes } => (r, b, seg, bytes).put_all(buffer, out, b' '),
+        Event::Pass { r, to, b } => (r, to, b).put_all(buffer, out, b' '),
+        Event::Drop { r, b } => (r, b).put_all(buffer, out, b' '),
+        Event::Stat { r, b } => (r, b).put_all(buffer, out, b' '),
+        Event::Url { r, b, text } => (r, b, text).put_all(buffer, out, b' '),
+        Event::Revoke { r, text } => (r, text).put_all(buffer, out, b' '),
+        Event::Read { r, q, b, off, len } => (r, q, b, off, len).put_all(buffer, out, b' '),
         Event::Fetch {
             r,
             q,
             text,
             off,
             len,
-        } => put_five(buffer, out, b' ', r, q, text, off, len),
-        Event::Step { q } => put_one(buffer, out, b' ', q),
-        Event::Cancel { r, q } => put_two(buffer, out, b' ', r, q),
-        Event::Disk { j } => put_one(buffer, out, b' ', j),
-        Event::Lost { j } => put_one(buffer, out, b' ', j),
+        } => (r, q, text, off, len).put_all(buffer, out, b' '),
+        Event::Step { q } => (q,).put_all(buffer, out, b' '),
+        Event::Cancel { r, q } => (r, q).put_all(buffer, out, b' '),
+        Event::Disk { j } => (j,).put_all(buffer, out, b' '),
+        Event::Lost { j } => (j,).put_all(buffer, out, b' '),
         Event::Build { r, b, kind, parts } => put_build(buffer, out, r, b, kind, parts),
         Event::Count => Ok(()),
         Event::Finish => Ok(()),

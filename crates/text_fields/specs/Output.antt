@@ -40,3 +40,7 @@ IsPut old new bytes (Err failed) = Stops old new bytes
 abbrev pub IsStreamed : Option (List ℕ) → Option (List ℕ) → ℕ → ℕ → List ℕ → Result (Unit {0}) Failed → Type 0
 IsStreamed held held' faults faults' text (Ok done) = Appends held held' text × (faults ≤ faults')
 IsStreamed held held' faults faults' text (Err failed) = (n : ℕ) × (n < length text) × Appends held held' (take n text) × Rose faults faults' × (faults ≤ faults')
+
+-- the same over a sink's members: what it took, where it tells that, and its count of faults
+abbrev pub IsPutTo : {K : Type 0} → (K → Option (List ℕ)) → (K → ℕ) → K → K → List ℕ → List ℕ → List ℕ → Result (Unit {0}) Failed → Type 0
+IsPutTo held faults old new ahead ahead' bytes result = IsPut (output (held old) (faults old) ahead) (output (held new) (faults new) ahead') bytes result

@@ -5,7 +5,7 @@ mod number;
 mod status;
 
 ghost use Rattle.text_fields.specs.Kind.{IsFaultOf};
-ghost use Rattle.text_fields.specs.Output.{output, IsPut};
+ghost use Rattle.text_fields.specs.Output.{IsPutTo};
 ghost use Rattle.text_fields.specs.Reading.{IsReading};
 
 use crate::buffer::Buffer;
@@ -26,7 +26,16 @@ pub trait Spell {
 
     /// Puts the spelling. After `Failed` a front of it was written that lacks some byte.
     fn put<K: Sink>(&self, buffer: &mut Buffer, out: &mut K) -> Result<(), Failed>
-        ensures { IsPut (output (K.held out.old) (K.faults out.old) buffer.old) (output (K.held out.new) (K.faults out.new) buffer.new) (spell self.now) result };
+        ensures { IsPutTo K.held K.faults out.old out.new buffer.old buffer.new
+            (spell self.now) result };
+}
+
+impl<A: Spell> Spell for &A {
+    ghost spell = { λ value. A.spell value.now };
+
+    fn put<K: Sink>(&self, buffer: &mut Buffer, out: &mut K) -> Result<(), Failed> {
+        (**self).put(buffer, out)
+    }
 }
 
 /// A value that stands in one field.

@@ -10,5 +10,6 @@ pub mod literal;
 pub mod put;
 pub mod row;
 pub mod stream;
+pub mod values;
 
 pub use line_fault::LineFault;

@@ -2,10 +2,10 @@
 
 ghost use Rattle.text_fields.specs.Output.{output, IsPut};
 
-use blob_source::Sink;
-use blob_words::Failed;
 use crate::buffer::Buffer;
 use crate::field::Spell;
+use blob_source::Sink;
+use blob_words::Failed;
 
 /// Bytes that stand as they are.
 #[derive(Drop)]

@@ -6,10 +6,11 @@ ghost use Rattle.text_fields.specs.Reading.{AreTaken};
 use crate::field::Field;
 use crate::fields::Fields;
 use crate::line_fault::LineFault;
+use crate::values::Values;
 use std::alloc::Global;
 
 /// The values of the fields behind a word.
-pub trait Row: Sized {
+pub trait Row: Values + Sized {
     ghost use Rattle.std.specs.Prelude.{◌≡◌, ◌≤◌, ℕ, List, length};
     ghost use Rattle.text_fields.specs.Kind.{Kind, AllSpell};
 
@@ -24,17 +25,14 @@ pub trait Row: Sized {
     // The values that the types have.
     ghost Fit: { Self → Type 0 };
 
-    // The spellings of the values.
-    ghost spell: { Self → List (List ℕ) };
-
     /// Takes the values that the first fields spell; there are so many.
     fn read(alloc: Global, fields: &mut Fields<'_>) -> Result<Self, LineFault>
         requires { COUNT ≤ length fields.old }
-        ensures { AreTaken kinds Fit spell fields.old fields.new result };
+        ensures { AreTaken kinds Fit Self.spell fields.old fields.new result };
 
     ghost counted: { length kinds ≡ COUNT };
 
-    ghost spelled: { (values : Self) → Fit values → AllSpell kinds (spell values) };
+    ghost spelled: { (values : Self) → Fit values → AllSpell kinds (Self.spell values) };
 }
 
 impl<A: Field> Row for (A,) {
@@ -45,8 +43,6 @@ impl<A: Field> Row for (A,) {
     ghost kinds = { A.kind ∷ [] };
 
     ghost Fit = { λ values. A.Fits values.0 };
-
-    ghost spell = { λ values. A.spell values.0 ∷ [] };
 
     ghost counted = { refl };
 
@@ -66,8 +62,6 @@ impl<A: Field + Drop, B: Field> Row for (A, B) {
     ghost kinds = { A.kind ∷ B.kind ∷ [] };
 
     ghost Fit = { λ values. A.Fits values.0 × B.Fits values.1 };
-
-    ghost spell = { λ values. A.spell values.0 ∷ B.spell values.1 ∷ [] };
 
     ghost counted = { refl };
 
@@ -89,8 +83,6 @@ impl<A: Field + Drop, B: Field + Drop, C: Field> Row for (A, B, C) {
 
     ghost Fit = { λ values. A.Fits values.0 × B.Fits values.1 × C.Fits values.2 };
 
-    ghost spell = { λ values. A.spell values.0 ∷ B.spell values.1 ∷ C.spell values.2 ∷ [] };
-
     ghost counted = { refl };
 
     ghost spelled = { λ values fit. (A.spelled values.0 fit.0, (B.spelled values.1 fit.1, (C.spelled values.2 fit.2, tt))) };
@@ -110,8 +102,6 @@ impl<A: Field + Drop, B: Field + Drop, C: Field + Drop, D: Field> Row for (A, B,
     ghost kinds = { A.kind ∷ B.kind ∷ C.kind ∷ D.kind ∷ [] };
 
     ghost Fit = { λ values. A.Fits values.0 × B.Fits values.1 × C.Fits values.2 × D.Fits values.3 };
-
-    ghost spell = { λ values. A.spell values.0 ∷ B.spell values.1 ∷ C.spell values.2 ∷ D.spell values.3 ∷ [] };
 
     ghost counted = { refl };
 
@@ -133,8 +123,6 @@ impl<A: Field + Drop, B: Field + Drop, C: Field + Drop, D: Field + Drop, E: Fiel
     ghost kinds = { A.kind ∷ B.kind ∷ C.kind ∷ D.kind ∷ E.kind ∷ [] };
 
     ghost Fit = { λ values. A.Fits values.0 × B.Fits values.1 × C.Fits values.2 × D.Fits values.3 × E.Fits values.4 };
-
-    ghost spell = { λ values. A.spell values.0 ∷ B.spell values.1 ∷ C.spell values.2 ∷ D.spell values.3 ∷ E.spell values.4 ∷ [] };
 
     ghost counted = { refl };
 
@@ -163,8 +151,6 @@ impl<
 
     ghost Fit = { λ values. A.Fits values.0 × B.Fits values.1 × C.Fits values.2 × D.Fits values.3 × E.Fits values.4 × F.Fits values.5 };
 
-    ghost spell = { λ values. A.spell values.0 ∷ B.spell values.1 ∷ C.spell values.2 ∷ D.spell values.3 ∷ E.spell values.4 ∷ F.spell values.5 ∷ [] };
-
     ghost counted = { refl };
 
     ghost spelled = { λ values fit. (A.spelled values.0 fit.0, (B.spelled values.1 fit.1, (C.spelled values.2 fit.2, (D.spelled values.3 fit.3, (E.spelled values.4 fit.4, (F.spelled values.5 fit.5, tt)))))) };
@@ -192,8 +178,6 @@ impl<
     ghost kinds = { A.kind ∷ B.kind ∷ C.kind ∷ D.kind ∷ E.kind ∷ F.kind ∷ G.kind ∷ [] };
 
     ghost Fit = { λ values. A.Fits values.0 × B.Fits values.1 × C.Fits values.2 × D.Fits values.3 × E.Fits values.4 × F.Fits values.5 × G.Fits values.6 };
-
-    ghost spell = { λ values. A.spell values.0 ∷ B.spell values.1 ∷ C.spell values.2 ∷ D.spell values.3 ∷ E.spell values.4 ∷ F.spell values.5 ∷ G.spell values.6 ∷ [] };
 
     ghost counted = { refl };
 

@@ -5,7 +5,7 @@ ghost use Rattle.hex.specs.Hex.{IsBytes, encode_lower};
 ghost use Rattle.text_fields.specs.Fields.{hex_text};
 ghost use Rattle.text_fields.specs.Kind.{bytes, content_type, some_bytes, IsFaultOf};
 ghost use Rattle.text_fields.specs.Kind.{IsContentType};
-ghost use Rattle.text_fields.specs.Output.{output, IsPut};
+ghost use Rattle.text_fields.specs.Output.{IsPutTo};
 ghost use Rattle.text_fields.specs.Reading.{IsReading};
 
 use crate::buffer::Buffer;
@@ -61,7 +61,8 @@ fn read_hex(alloc: Global, text: &[u8]) -> Result<Octets, LineFault>
 }
 
 fn put_hex<K: Sink>(buffer: &mut Buffer, out: &mut K, bytes: &[u8]) -> Result<(), Failed>
-    ensures { IsPut (output (K.held out.old) (K.faults out.old) buffer.old) (output (K.held out.new) (K.faults out.new) buffer.new) (hex_text bytes.now) result }
+    ensures { IsPutTo K.held K.faults out.old out.new buffer.old buffer.new
+        (hex_text bytes.now) result }
 {
     if bytes.is_empty() {
         return buffer.put_byte(out, b'-');
@@ -70,7 +71,8 @@ fn put_hex<K: Sink>(buffer: &mut Buffer, out: &mut K, bytes: &[u8]) -> Result<()
 }
 
 fn put_digits<K: Sink>(buffer: &mut Buffer, out: &mut K, bytes: &[u8]) -> Result<(), Failed>
-    ensures { IsPut (output (K.held out.old) (K.faults out.old) buffer.old) (output (K.held out.new) (K.faults out.new) buffer.new) (encode_lower bytes.now) result }
+    ensures { IsPutTo K.held K.faults out.old out.new buffer.old buffer.new
+        (encode_lower bytes.now) result }
 {
     let mut rest = bytes;
     while !rest.is_empty() {

@@ -5,7 +5,7 @@ ghost use Rattle.std.specs.Fmt.{signed_decimal};
 ghost use Rattle.std.specs.Int.{w64};
 ghost use Rattle.text_fields.specs.Fields.{len_text, place_text};
 ghost use Rattle.text_fields.specs.Kind.{number_32, number_64, positive, len, place, IsFaultOf};
-ghost use Rattle.text_fields.specs.Output.{output, IsPut};
+ghost use Rattle.text_fields.specs.Output.{IsPutTo};
 ghost use Rattle.text_fields.specs.Reading.{is_plain, IsExact, IsSignedFault};
 
 use crate::buffer::Buffer;
@@ -117,14 +117,16 @@ fn read_place(text: &[u8]) -> Result<Option<i64>, LineFault>
 }
 
 fn put_number<K: Sink>(buffer: &mut Buffer, out: &mut K, number: u64) -> Result<(), Failed>
-    ensures { IsPut (output (K.held out.old) (K.faults out.old) buffer.old) (output (K.held out.new) (K.faults out.new) buffer.new) (decimal number) result }
+    ensures { IsPutTo K.held K.faults out.old out.new buffer.old buffer.new
+        (decimal number) result }
 {
     let mut digits = itoa::Buffer::new();
     buffer.put(out, digits.format(number).as_bytes())
 }
 
 fn put_signed<K: Sink>(buffer: &mut Buffer, out: &mut K, number: i64) -> Result<(), Failed>
-    ensures { IsPut (output (K.held out.old) (K.faults out.old) buffer.old) (output (K.held out.new) (K.faults out.new) buffer.new) (signed_decimal number) result }
+    ensures { IsPutTo K.held K.faults out.old out.new buffer.old buffer.new
+        (signed_decimal number) result }
 {
     let mut digits = itoa::Buffer::new();
     buffer.put(out, digits.format(number).as_bytes())
