@@ -1,6 +1,6 @@
 //! The groups of a transcript, put and printed.
 
-ghost use Rattle.std.specs.Prelude.{◌≡◌, ◌++◌, codes, OnOk, OnErr};
+ghost use Rattle.std.specs.Prelude.{◌≡◌, ◌++◌, [], codes, OnOk, OnErr};
 ghost use Rattle.std.specs.List.{flat_map};
 ghost use Rattle.text_fields.specs.Output.{IsPutTo, IsStreamed};
 ghost use Rattle.answer_text.specs.Text.{answer_line, event_line, group_text, tally_line, tally_text};
@@ -14,7 +14,7 @@ use std::alloc::Global;
 use text_fields::buffer::Buffer;
 use text_fields::field::Spell;
 use text_fields::put::{put_line, put_lines};
-use text_fields::stream::{print, stream};
+use text_fields::stream::{print, stream, stream_through};
 use text_fields::values::Values;
 
 fn put_event_line<K: Sink>(buffer: &mut Buffer, out: &mut K, event: &Event) -> Result<(), Failed>
@@ -82,6 +82,20 @@ pub fn stream_group<K: Sink>(group: &Group, out: &mut K) -> Result<(), Failed>
     ensures { IsStreamed (K.held out.old) (K.held out.new) (K.faults out.old) (K.faults out.new) (group_text group.now) result }
 {
     stream(group, out)
+}
+
+/// The same through a buffer in which nothing is ahead, so that many groups need one.
+pub fn stream_group_through<K: Sink>(
+    group: &Group,
+    buffer: &mut Buffer,
+    out: &mut K,
+) -> Result<(), Failed>
+    requires { buffer.old ≡ [] }
+    ensures streamed { IsStreamed (K.held out.old) (K.held out.new)
+        (K.faults out.old) (K.faults out.new) (group_text group.now) result }
+    ensures empty { OnOk result (buffer.new ≡ []) }
+{
+    stream_through(group, buffer, out)
 }
 
 /// Puts the text of a group at the end of the bytes. After want of memory they are as they were.

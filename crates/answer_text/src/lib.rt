@@ -24,6 +24,6 @@ pub use answer::{Answer, Answers};
 pub use group::{Group, Groups};
 pub use group_fault::GroupFault;
 pub use group_reader::read_group;
-pub use group_writer::{print_group, stream_group};
+pub use group_writer::{print_group, stream_group, stream_group_through};
 pub use refusal::Refusal;
 pub use text_fault::TextFault;

@@ -14,6 +14,7 @@ use crate::replay::line::take_limits;
 use crate::replay::open::open_with;
 use blob_source::{LineReader, Sink, Source};
 use std::alloc::Global;
+use text_fields::buffer::Buffer;
 
 fn replay<S: Source, K: Sink>(alloc: Global, session: &mut S, out: &mut K) -> Ending
     ensures replay { IsReplay (S.left session.old) (K.held out.old) (K.held out.new)
@@ -28,11 +29,12 @@ fn replay<S: Source, K: Sink>(alloc: Global, session: &mut S, out: &mut K) -> En
         Ok(limits) => limits,
         Err(ending) => return ending,
     };
-    let mut store = match open_with(alloc, limits, out) {
+    let mut buffer = Buffer::new();
+    let mut store = match open_with(alloc, limits, &mut buffer, out) {
         Ok(store) => store,
         Err(ending) => return ending,
     };
-    follow(alloc, &mut reader, &mut store, session, out)
+    follow(alloc, &mut reader, &mut store, session, &mut buffer, out)
 }
 
 /// Whether the words ask for a replay.

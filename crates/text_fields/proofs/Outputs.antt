@@ -8,7 +8,6 @@ use Rattle.hex_lanes.proofs.Spelling.{encode_with-append}
 use Rattle.blob_words.specs.declared.fault.Failed.{Failed}
 use Rattle.blob_source.specs.Faults.{Rose}
 use Rattle.text_fields.specs.Output.{Output, output, Puts, Stops, IsPut, IsStreamed}
-use Rattle.text_fields.proofs.Rows.{later}
 
 -- a count that rose later rose since before
 pub rose_earlier : (a b c : ℕ) → a ≤ b → Rose b c → Rose a c

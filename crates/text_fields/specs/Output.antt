@@ -3,7 +3,6 @@ use Rattle.std.specs.Prelude.{ℕ, ◌≡◌, ◌<◌, ◌≤◌, List, ◌++◌
 use Rattle.std.specs.Io.KnownBytes.{Appends}
 use Rattle.blob_words.specs.declared.fault.Failed.{Failed}
 use Rattle.blob_source.specs.Faults.{Rose}
-use Rattle.text_fields.proofs.Rows.{later}
 
 -- a sink and the buffer in front of it: what the sink took, where it tells that, its count of faults, and the bytes in the buffer
 pub record Output : Type 0 where

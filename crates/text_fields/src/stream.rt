@@ -1,6 +1,6 @@
 //! Spellings, written to a sink as a stream or put at the end of bytes.
 
-ghost use Rattle.std.specs.Prelude.{◌≡◌, ◌++◌, OnOk, OnErr};
+ghost use Rattle.std.specs.Prelude.{◌≡◌, ◌++◌, [], OnOk, OnErr};
 ghost use Rattle.text_fields.specs.Output.{IsStreamed};
 
 use crate::buffer::Buffer;
@@ -11,16 +11,31 @@ use blob_words::{Failed, NoMemory, Octets};
 use std::alloc::Global;
 use std::mem;
 
-/// Writes a spelling in pieces of at most 4,096 bytes, and takes no memory. After `Failed`, which
+/// Writes a spelling through a buffer in which nothing is ahead, in pieces of at most 4,096 bytes,
+/// and takes no memory: a loop over many values has one buffer for them all. After `Failed`, which
 /// comes only where the sink's count rose, a front of it was written that lacks some byte.
-pub fn stream<A: Spell, K: Sink>(value: &A, out: &mut K) -> Result<(), Failed>
-    ensures { IsStreamed (K.held out.old) (K.held out.new) (K.faults out.old) (K.faults out.new) (A.spell value.now) result }
+pub fn stream_through<A: Spell, K: Sink>(
+    value: &A,
+    buffer: &mut Buffer,
+    out: &mut K,
+) -> Result<(), Failed>
+    requires { buffer.old ≡ [] }
+    ensures streamed { IsStreamed (K.held out.old) (K.held out.new)
+        (K.faults out.old) (K.faults out.new) (A.spell value.now) result }
+    ensures empty { OnOk result (buffer.new ≡ []) }
 {
-    let mut buffer = Buffer::new();
-    match value.put(&mut buffer, out) {
+    match value.put(buffer, out) {
         Ok(()) => buffer.flush(out),
         Err(Failed) => Err(Failed),
     }
+}
+
+/// The same through a buffer of its own, on the stack.
+pub fn stream<A: Spell, K: Sink>(value: &A, out: &mut K) -> Result<(), Failed>
+    ensures { IsStreamed (K.held out.old) (K.held out.new)
+        (K.faults out.old) (K.faults out.new) (A.spell value.now) result }
+{
+    stream_through(value, &mut Buffer::new(), out)
 }
 
 /// Puts a spelling at the end of the bytes. After want of memory they are as they were.

@@ -17,11 +17,12 @@ use crate::replay::put::{refuse, refuse_fault};
 use crate::store::Store;
 use crate::store::fault::ApplyFault;
 use crate::turn::Turn;
-use answer_text::stream_group;
+use answer_text::stream_group_through;
 use blob_source::{LineReader, LineStep, Sink, Source};
 use blob_words::{Failed, Limits};
 use session_script::{Event, read_line};
 use std::alloc::Global;
+use text_fields::buffer::Buffer;
 
 /// The greatest number of lines of a session.
 pub const MAX_LINES: u32 = 1 << 20;
@@ -32,12 +33,15 @@ fn answer_line<K: Sink>(
     number: u32,
     line: &[u8],
     store: &mut Store,
+    buffer: &mut Buffer,
     out: &mut K,
 ) -> Turn
+    requires { buffer.old ≡ [] }
     ensures turned { (l : SomeLimits) (h : History) (unread unread' : Option (List ℕ)) → Rests l store.old h → length line.now ≤ 2 ^ 20 → has_line_feed line.now ≡ false
         → Consumes unread unread' (line.now ++ 10 ∷ []) → Turned l h number unread unread' (K.held out.old) (K.held out.new) store.new result }
     ensures cause { (source : ℕ) → TurnCause result source source (K.faults out.old) (K.faults out.new) }
     ensures later { K.faults out.old ≤ K.faults out.new }
+    ensures empty { result ≡ Turn.More → buffer.new ≡ [] }
 {
     let event = match read_line(alloc, line) {
         Ok(event) => event,
@@ -48,7 +52,7 @@ fn answer_line<K: Sink>(
         Err(ApplyFault::Unbuilt) => return Turn::Over(refuse(number, Reason::Unbuilt, out)),
         Err(ApplyFault::NoMemory) => return Turn::Over(Ending::NoMemory),
     };
-    match stream_group(&group, out) {
+    match stream_group_through(&group, buffer, out) {
         Ok(()) => {}
         Err(Failed) => return Turn::Over(Ending::SinkFailed),
     }
@@ -65,17 +69,20 @@ pub fn take_turn<S: Source, K: Sink>(
     reader: &mut LineReader,
     store: &mut Store,
     session: &mut S,
+    buffer: &mut Buffer,
     out: &mut K,
 ) -> Turn
+    requires { buffer.old ≡ [] }
     ensures turned { (l : SomeLimits) (h : History) → Rests l store.old h → reader.old.last ≡ steps.Line
         → Turned l h number (prepend_known reader.old.ahead (S.left session.old)) (prepend_known reader.new.ahead (S.left session.new)) (K.held out.old) (K.held out.new) store.new result }
     ensures ready { result ≡ Turn.More → reader.new.last ≡ steps.Line }
     ensures cause { reader.old.last ≡ steps.Line → TurnCause result (S.faults session.old) (S.faults session.new) (K.faults out.old) (K.faults out.new) }
     ensures source_later { S.faults session.old ≤ S.faults session.new }
     ensures sink_later { K.faults out.old ≤ K.faults out.new }
+    ensures empty { result ≡ Turn.More → buffer.new ≡ [] }
 {
     match reader.next_line(session) {
-        LineStep::Line => answer_line(alloc, number, reader.line(), store, out),
+        LineStep::Line => answer_line(alloc, number, reader.line(), store, buffer, out),
         LineStep::End => Turn::Over(Ending::Stopped),
         LineStep::Unended => Turn::Over(refuse(number, Reason::Unended, out)),
         LineStep::TooLong => Turn::Over(refuse(number, Reason::Long, out)),

@@ -1,4 +1,4 @@
-ghost use Rattle.std.specs.Prelude.{◌≡◌, ◌≤◌, IfOk, MatchResult, Err};
+ghost use Rattle.std.specs.Prelude.{◌≡◌, ◌≤◌, [], IfOk, MatchResult, OnOk, Err};
 ghost use Rattle.std.specs.Io.KnownBytes.{Appends};
 ghost use Rattle.blob_source.specs.Faults.{Rose};
 ghost use Rattle.replay_run.specs.History.{start};
@@ -9,11 +9,12 @@ ghost use Rattle.replay_run.specs.Stands.{Rests};
 
 use crate::ending::Ending;
 use crate::store::Store;
-use answer_text::{Answer, Answers, Group, stream_group};
+use answer_text::{Answer, Answers, Group, stream_group_through};
 use blob_source::Sink;
 use blob_words::{Failed, Limits, NoMemory, Tally};
 use session_script::Event;
 use std::alloc::Global;
+use text_fields::buffer::Buffer;
 
 /// The group of the line of the limits.
 fn opening(alloc: Global, limits: Limits) -> Result<Group, NoMemory>
@@ -34,17 +35,24 @@ fn opening(alloc: Global, limits: Limits) -> Result<Group, NoMemory>
 }
 
 /// Opens the session of these limits: makes its store and writes the group of their line.
-pub fn open_with<K: Sink>(alloc: Global, limits: Limits, out: &mut K) -> Result<Store, Ending>
+pub fn open_with<K: Sink>(
+    alloc: Global,
+    limits: Limits,
+    buffer: &mut Buffer,
+    out: &mut K,
+) -> Result<Store, Ending>
+    requires { buffer.old ≡ [] }
     ensures opened { MatchResult result
         (λ store. Rests limits store start × Appends (K.held out.old) (K.held out.new) (group_text (opening limits)))
         (IsUnwritten (group_text (opening limits)) (K.held out.old) (K.held out.new)) }
     ensures cause { result ≡ Err Ending.SinkFailed → Rose (K.faults out.old) (K.faults out.new) }
     ensures later { K.faults out.old ≤ K.faults out.new }
+    ensures empty { OnOk result (buffer.new ≡ []) }
 {
     let Ok(group) = opening(alloc, limits) else {
         return Err(Ending::NoMemory);
     };
-    match stream_group(&group, out) {
+    match stream_group_through(&group, buffer, out) {
         Ok(()) => Ok(Store::new(alloc, limits)),
         Err(Failed) => Err(Ending::SinkFailed),
     }

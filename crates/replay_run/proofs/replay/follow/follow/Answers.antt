@@ -22,6 +22,7 @@ pub loop-number-preserved : goal.loop-number-preserved
 loop-number-preserved g c = record {
   source = omega (arith, c.loop-number.invariant.source, c.in-More.ensures.source_later);
   sink = omega (arith, c.loop-number.invariant.sink, c.in-More.ensures.sink_later);
+  empty = c.in-More.ensures.empty refl;
   going = λ l rests ready.
       let kept = c.loop-number.invariant.going l rests ready in
       let turned = c.in-More.ensures.turned l (history_from start kept.1.groups) kept.1.rests kept.0 in

@@ -76,13 +76,13 @@ module _ (l : Limits) (h : History) (unread unread' held held' : Option (List �
   cut_off : (number n : ℕ) → n < length (group_text group) → IsCut (IsLegalGroup l h) (IsOutAt l h) number unread (take n (group_text group))
   cut_off number n less = inl (group, applied.1, is_line, begins unread unread' (line_of group.event) consumed, (n, less, refl))
 
-pub returns-in-Err-stream_group-clause-turned : goal.returns-in-Err-stream_group-clause-turned
-returns-in-Err-stream_group-clause-turned g c l h unread unread' rests short clear taken =
+pub returns-in-Err-stream_group_through-clause-turned : goal.returns-in-Err-stream_group_through-clause-turned
+returns-in-Err-stream_group_through-clause-turned g c l h unread unread' rests short clear taken =
     let fits = c.in-Ok.ensures.read in
-    let cut = c.in-Err-stream_group.ensures in
+    let cut = c.in-Err-stream_group_through.ensures.streamed in
     let group = c.in-Ok-apply.group in
     let held = g.K.Sink.held c.args.out.now in
-    let held' = g.K.Sink.held c.stream_group.new.out in
+    let held' = g.K.Sink.held c.stream_group_through.new.out in
     (take cut.0 (group_text group), cut.2, cut_off l h unread unread' held held' c.args.line.now c.in-Ok.event group c.apply.new.self short taken fits.0 fits.1 (c.in-Ok-apply.ensures l h rests) c.args.number cut.0 cut.1)
 
 pub returns-then-has_ended-clause-turned : goal.returns-then-has_ended-clause-turned
@@ -90,7 +90,7 @@ returns-then-has_ended-clause-turned g c l h unread unread' rests short clear ta
     let fits = c.in-Ok.ensures.read in
     let applied = c.in-Ok-apply.ensures l h rests in
     let group = c.in-Ok-apply.group in (
-      is_taken l h unread unread' (g.K.Sink.held c.args.out.now) (g.K.Sink.held c.stream_group.new.out) c.args.line.now c.in-Ok.event group c.apply.new.self short taken fits.0 fits.1 applied c.in-Ok-stream_group.ensures.0,
+      is_taken l h unread unread' (g.K.Sink.held c.args.out.now) (g.K.Sink.held c.stream_group_through.new.out) c.args.line.now c.in-Ok.event group c.apply.new.self short taken fits.0 fits.1 applied c.in-Ok-stream_group_through.ensures.streamed.0,
       sym (c.has_ended.ensures l (after h group.event group.answers) applied.2) ∙ c.if-has_ended.true,
     )
 
@@ -99,6 +99,6 @@ returns-clause-turned g c l h unread unread' rests short clear taken =
     let fits = c.in-Ok.ensures.read in
     let applied = c.in-Ok-apply.ensures l h rests in
     let group = c.in-Ok-apply.group in (
-      is_taken l h unread unread' (g.K.Sink.held c.args.out.now) (g.K.Sink.held c.stream_group.new.out) c.args.line.now c.in-Ok.event group c.apply.new.self short taken fits.0 fits.1 applied c.in-Ok-stream_group.ensures.0,
+      is_taken l h unread unread' (g.K.Sink.held c.args.out.now) (g.K.Sink.held c.stream_group_through.new.out) c.args.line.now c.in-Ok.event group c.apply.new.self short taken fits.0 fits.1 applied c.in-Ok-stream_group_through.ensures.streamed.0,
       sym (c.has_ended.ensures l (after h group.event group.answers) applied.2) ∙ c.if-has_ended.false,
     )

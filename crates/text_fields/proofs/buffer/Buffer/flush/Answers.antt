@@ -1,6 +1,5 @@
 use Rattle.text_fields.proofs.Outputs.{flush_stops}
 use Rattle.text_fields.proofs.buffer.Buffer.flush.Goals as goal
-use Rattle.text_fields.proofs.Rows.{later}
 
 pub returns-in-Err-clause-put : goal.returns-in-Err-clause-put
 returns-in-Err-clause-put g c =

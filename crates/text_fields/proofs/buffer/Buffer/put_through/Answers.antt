@@ -2,7 +2,6 @@ use Rattle.std.proofs.Common.{◌≡◌, ◌++◌, sym}
 use Rattle.std.proofs.lemmas.List.{take-append-drop}
 use Rattle.text_fields.proofs.Outputs.{through_more, through_stops}
 use Rattle.text_fields.proofs.buffer.Buffer.put_through.Goals as goal
-use Rattle.text_fields.proofs.Rows.{later}
 
 pub returns-in-Err : goal.returns-in-Err
 returns-in-Err g c =
