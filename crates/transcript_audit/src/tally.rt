@@ -127,7 +127,8 @@ fn held_files(
 {
     let mut places = ItemList::new(alloc);
     for place in 0..pages.len() {
-        let pieces = page_pieces(alloc, pages, builds, pages[place].number, list)?;
+        let page = &pages[place];
+        let pieces = page_pieces(alloc, pages, builds, page.number, list)?;
         if pieces.len() > 0 {
             places.push(place)?;
         }

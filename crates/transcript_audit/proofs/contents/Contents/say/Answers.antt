@@ -1,8 +1,8 @@
 -- What is kept takes the answer, and all else stays.
 use Rattle.transcript_audit.proofs.contents.Contents.say.Goals as goal
 
-pub returns-in_ok-say : goal.returns-in_ok-say
-returns-in_ok-say c = λ s h follows. record {
+pub returns : goal.returns
+returns c = λ s h follows. record {
   keeps = c.in_ok-say.ensures h follows.keeps;
   limits_are = follows.limits_are;
   builds_are = follows.builds_are;

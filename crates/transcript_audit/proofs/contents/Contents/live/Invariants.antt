@@ -4,7 +4,7 @@ use Rattle.blob_model.specs.Session.{Session}
 use Rattle.blob_model.specs.History.{History}
 use Rattle.transcript_audit.specs.Follows.{Follows}
 use Rattle.transcript_audit.proofs.Living.{IsPassed}
-use Rattle.transcript_audit.proofs.live.Contents.live.Given as goal
+use Rattle.transcript_audit.proofs.contents.Contents.live.Given as goal
 
 abbrev pub invariant-loop-back : goal.invariant-loop-back
 invariant-loop-back l = (s : Session) (h : History) → Follows s h l.self → IsPassed s.limits.page h l.self.builds (drop l.back (reverse l.self.builds)) l.places l.wanted
