@@ -1,7 +1,7 @@
 mod Latest
 mod RunCells
-mod PieceNumbers
 mod Living
 mod Reaching
 mod Lifted
 mod Placing
+mod PlacesFound

@@ -1,8 +1,8 @@
 -- One blob more is looked at, from the last on.
-use Rattle.std.proofs.Common.{◌≡◌, ℕ, ◌==◌, ◌&&◌, ◌||◌, Bool, true, false, cond, List, [], ◌∷◌, ◌++◌, Option, Some, None, refl, sym, ap, ◌∙◌, if◌then◌else◌, append-nil}
+use Rattle.std.proofs.Common.{◌≡◌, ℕ, zero, suc, ◌+◌, ◌-◌, ◌<◌, ◌≤◌, ◌==◌, ◌&&◌, ◌||◌, Bool, true, false, cond, List, [], ◌∷◌, ◌++◌, Option, Some, None, length, get_or, take, drop, refl, sym, ap, subst, ◌∙◌, if◌then◌else◌, arith, append-nil}
 use Rattle.std.specs.Prelude.{reverse, filter_map, slice_get}
 use Rattle.std.specs.List.{list_any, cons_option}
-use Rattle.std.proofs.lemmas.List.{reverse-append}
+use Rattle.std.proofs.lemmas.List.{reverse-append, length-reverse, drop_more, drop_all, take_all, get_or-reverse}
 use Rattle.std.proofs.lemmas.List.Folds.{list_any-append}
 use Rattle.blob_model.specs.History.{History}
 use Rattle.blob_model.specs.Parts.{sources}
@@ -74,3 +74,38 @@ passed_more page h items rest build place places wanted there passed = by (is_ke
       passes = sym (ap (λ (b : Bool). live_from page h rest (if b then build ∷ later else later)) (test ∙ is)) ∙ passed.passes;
       agree = passed.agree;
     }
+
+got : {X : Type 0} (items : List X) (k : ℕ) (x : X) → k < length items → x ≡ get_or items k x → slice_get items k ≡ Some x
+got [] k x below is = absurd (omega (arith, below))
+got (y ∷ ys) zero x below is = ap Some (sym is)
+got (y ∷ ys) (suc k) x below is = got ys k x (omega (arith, below)) is
+
+-- the blob at a place, told from the last on, is looked at next
+pub passed_next : (page : ℕ) (h : History) (items : List Build) (back k : ℕ) (build : Build) (places wanted : List ℕ)
+    → back < length items → k ≡ length items - 1 - back → build ≡ get_or items k build
+    → IsPassed page h items (drop back (reverse items)) places wanted
+    → IsPassed page h items (drop (back + 1) (reverse items)) (places_after page h build k wanted places) (wanted_after page h build wanted)
+passed_next page h items back k build places wanted below at is passed =
+    passed_more page h items (drop (back + 1) (reverse items)) build k places wanted (got items k build (omega (arith, below, at)) is)
+    (subst (λ (list : List Build). IsPassed page h items list places wanted) split passed)
+  where
+    split : drop back (reverse items) ≡ build ∷ drop (back + 1) (reverse items)
+    split =
+        drop_more (reverse items) back build (omega (arith, below, length-reverse items))
+        ∙ ap (λ (one : Build). one ∷ drop (back + 1) (reverse items)) (get_or-reverse items back build below ∙ ap (λ (n : ℕ). get_or items n build) (sym at) ∙ sym is)
+
+-- all blobs were looked at
+pub passed_all : (page : ℕ) (h : History) (items : List Build) (back : ℕ) (places wanted : List ℕ) → length items ≤ back
+    → IsPassed page h items (drop back (reverse items)) places wanted → items_at items (reverse places) ≡ live_from page h (reverse items) []
+passed_all page h items back places wanted over passed =
+    ap (λ (rest : List Build). live_from page h rest (items_at items (reverse places))) (sym (drop_all back (reverse items) (omega (arith, over, length-reverse items))))
+    ∙ passed.passes
+
+-- a list that is turned in its place
+pub turned_whole : (places turned : List ℕ) → turned ≡ reverse places → take (length places) (turned ++ drop (length turned) places) ≡ reverse places
+turned_whole places turned same =
+    let count : length turned ≡ length places = ap length same ∙ length-reverse places in
+    ap (λ (rest : List ℕ). take (length places) (turned ++ rest)) (drop_all (length turned) places (omega (arith, count)))
+    ∙ ap (take (length places)) (append-nil turned)
+    ∙ take_all (length places) turned (omega (arith, count))
+    ∙ same

@@ -1,11 +1,10 @@
 //! What a store holds after a line: memory and disk charged by what is reached.
-ghost use Rattle.std.specs.Prelude.{◌≡◌, ℕ, ◌+◌, filter, sum_by, IfOk};
+ghost use Rattle.std.specs.Prelude.{◌≡◌, filter, IfOk};
 ghost use Rattle.blob_model.specs.Session.{Session};
 ghost use Rattle.blob_model.specs.History.{History};
 ghost use Rattle.blob_model.specs.Builds.{build_in, builds};
-ghost use Rattle.blob_model.specs.Pieces.{length_in};
 ghost use Rattle.blob_model.specs.Pages.{unlisted_place, is_memory, is_reserved, is_page, page_size};
-ghost use Rattle.blob_model.specs.Tally.{in_memory_of, reserved_of, files_of, job_left_in, memory_of, disk_of};
+ghost use Rattle.blob_model.specs.Tally.{in_memory_of, reserved_of, in_page_of, files_of, job_left_in, memory_of};
 ghost use Rattle.transcript_audit.specs.Follows.{Follows};
 ghost use Rattle.transcript_audit.specs.Chosen.{items_at};
 ghost use Rattle.transcript_audit.specs.Placed.{place_at, memory_pieces, reserved_pieces, page_pieces, holds_some};
@@ -115,6 +114,20 @@ fn page_pieces(
     Ok(found)
 }
 
+/// Whether one of the pieces is in the page file.
+fn holds_some(
+    alloc: Global,
+    pages: &[Page],
+    builds: &[Build],
+    list: &[Piece],
+    page: &Page,
+) -> Result<bool, NoMemory>
+    ensures { IfOk result (λ some. some ≡ holds_some pages.now builds.now list.now page.now) }
+{
+    let found = page_pieces(alloc, pages, builds, page.number, list)?;
+    Ok(found.len() > 0)
+}
+
 /// The places of the page files that hold one of the pieces.
 fn held_files(
     alloc: Global,
@@ -127,9 +140,8 @@ fn held_files(
 {
     let mut places = ItemList::new(alloc);
     for place in 0..pages.len() {
-        let page = &pages[place];
-        let pieces = page_pieces(alloc, pages, builds, page.number, list)?;
-        if pieces.len() > 0 {
+        let some = holds_some(alloc, pages, builds, list, &pages[place])?;
+        if some {
             places.push(place)?;
         }
     }
