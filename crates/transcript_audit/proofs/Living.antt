@@ -57,18 +57,20 @@ passed_more page h items rest build place places wanted there passed = by (is_ke
   where
     later : List Build
     later = items_at items (reverse places)
+
     test : (is_rooted page h build.name || is_needed h later build.name) ≡ is_kept_alive page h wanted build.name
     test = ap (λ (b : Bool). is_rooted page h build.name || b) (passed.agree build.name)
+
     by : (b : Bool) → is_kept_alive page h wanted build.name ≡ b
         → IsPassed page h items rest (if b then places ++ place ∷ [] else places) (if b then wanted ++ wants h build else wanted)
     by true is = record {
       passes =
-        ap (live_from page h rest) (one_more items places place build there)
-        ∙ sym (ap (λ (b : Bool). live_from page h rest (if b then build ∷ later else later)) (test ∙ is))
-        ∙ passed.passes;
+          ap (live_from page h rest) (one_more items places place build there)
+          ∙ sym (ap (λ (b : Bool). live_from page h rest (if b then build ∷ later else later)) (test ∙ is))
+          ∙ passed.passes;
       agree = λ (name : ℕ).
-        ap (λ (list : List Build). is_needed h list name) (one_more items places place build there)
-        ∙ wanted_more h build later wanted passed.agree name;
+          ap (λ (list : List Build). is_needed h list name) (one_more items places place build there)
+          ∙ wanted_more h build later wanted passed.agree name;
     }
     by false is = record {
       passes = sym (ap (λ (b : Bool). live_from page h rest (if b then build ∷ later else later)) (test ∙ is)) ∙ passed.passes;

@@ -94,8 +94,10 @@ kept_at {X} test items (place ∷ places) = by (slice_get items place) refl (kep
   where
     keep : ℕ → Bool
     keep each = option_map_or test (slice_get items each) false
+
     rest : List ℕ
     rest = filter keep places
+
     by : (found : Option X) → slice_get items place ≡ found → items_at items (filter keep places) ≡ filter test (items_at items places)
         → items_at items (cond (option_map_or test (slice_get items place) false) (place ∷ filter keep places) (filter keep places))
         ≡ filter test (cons_option (slice_get items place) (items_at items places))

@@ -76,12 +76,7 @@ pub fn size_in(builds: &[Build], name: BlobName) -> u128
     }
 }
 
-fn put_own(
-    name: BlobName,
-    from: u64,
-    len: u64,
-    found: &mut ItemList<Run>,
-) -> Result<(), NoMemory>
+fn put_own(name: BlobName, from: u64, len: u64, found: &mut ItemList<Run>) -> Result<(), NoMemory>
     ensures { OnOk result (cells_of_runs found.new
         ≡ cells_of_runs found.old ++ map (cell_at (kinds.Sent name)) (range_with_len from len)) }
 {

@@ -111,11 +111,7 @@ pub fn numbered(
 }
 
 /// Where the pieces of a blob stand; one that broke at its own line has none.
-pub fn spans_of(
-    alloc: Global,
-    page: u64,
-    build: &Build,
-) -> Result<ItemList<(u64, u64)>, NoMemory>
+pub fn spans_of(alloc: Global, page: u64, build: &Build) -> Result<ItemList<(u64, u64)>, NoMemory>
     requires page { 0 < page }
     requires fits { own_bytes build.now.parts < 2 ^ 64 }
     ensures { IfOk result (λ found. found ≡ spans_of page build.now) }

@@ -36,7 +36,7 @@ fn put_begun(
     ensures size { IfOk result (λ size. size ≡ min left (run.now.len - skip)) }
     ensures cells { OnOk result (cells_of_runs found.new ≡ cells_of_runs found.old
         ++ map (cell_at run.now.source)
-            (range_with_len (run.now.from + skip) (min left (run.now.len - skip)))) }
+        (range_with_len (run.now.from + skip) (min left (run.now.len - skip)))) }
 {
     let size = left.min(run.len - skip);
     let source = run.source.copy(alloc)?;

@@ -22,13 +22,14 @@ loop-run-preserved c =
     let before : found ++ take left (drop skip (cells_of_runs (run ∷ rest))) ≡ cells_of_runs c.args.found.now ++ take c.args.len (drop c.args.off (cells_of_runs runs)) =
     ap (λ (list : List Run). found ++ take left (drop skip (cells_of_runs list))) (sym split) ∙ c.loop-run.invariant in
     elim c.if-skip-run.branch [
-      then-skip-run w ↦
-        rw (w.found-is, w.skip-is, w.left-is) (ap (λ (cells : List Cell). found ++ cells) (sym (passed run rest skip left (omega arith))) ∙ before)
+      | then-skip-run w ↦
+          rw (w.found-is, w.skip-is, w.left-is) (ap (λ (cells : List Cell). found ++ cells) (sym (passed run rest skip left (omega arith))) ∙ before)
       | else-skip-run+in_ok-left w ↦
-        let part : List Cell = map (cell_at run.source) (range_with_len (run.from + skip) (min left (run.len - skip))) in
-        let more : cells_of_runs c.if-skip-run.found ≡ found ++ part = ap cells_of_runs w.found-is ∙ w.in_ok-left.ensures.cells in
-        let fewer : c.if-skip-run.left ≡ left - min left (run.len - skip) = w.left-is ∙ ap (λ (n : ℕ). left - n) w.in_ok-left.ensures.size in
-        rw (more, fewer, w.skip-is)
-        (append_assoc found part (take (left - min left (run.len - skip)) (cells_of_runs rest))
-        ∙ ap (λ (cells : List Cell). found ++ cells) (sym (begun run rest skip left (omega arith)))
-        ∙ before) ]
+          let part : List Cell = map (cell_at run.source) (range_with_len (run.from + skip) (min left (run.len - skip))) in
+          let more : cells_of_runs c.if-skip-run.found ≡ found ++ part = ap cells_of_runs w.found-is ∙ w.in_ok-left.ensures.cells in
+          let fewer : c.if-skip-run.left ≡ left - min left (run.len - skip) = w.left-is ∙ ap (λ (n : ℕ). left - n) w.in_ok-left.ensures.size in
+          rw (more, fewer, w.skip-is)
+          (append_assoc found part (take (left - min left (run.len - skip)) (cells_of_runs rest))
+          ∙ ap (λ (cells : List Cell). found ++ cells) (sym (begun run rest skip left (omega arith)))
+          ∙ before)
+    ]

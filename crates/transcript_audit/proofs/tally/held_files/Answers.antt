@@ -15,9 +15,10 @@ loop-place-preserved c =
     let places : List ℕ = c.loop-place.places in
     let test : Page → Bool = holds_some c.args.pages.now c.args.builds.now c.args.list.now in
     elim c.if-some.branch [
-      then-some+in_ok-push w ↦
-        ap (items_at items) (w.places-is ∙ w.in_ok-push.ensures.ok)
-        ∙ found_more items test k page places (omega arith) c.index-pages-place.is (sym c.in_ok-some.ensures ∙ w.if-some.true) c.loop-place.invariant
+      | then-some+in_ok-push w ↦
+          ap (items_at items) (w.places-is ∙ w.in_ok-push.ensures.ok)
+          ∙ found_more items test k page places (omega arith) c.index-pages-place.is (sym c.in_ok-some.ensures ∙ w.if-some.true) c.loop-place.invariant
       | else-some w ↦
-        ap (items_at items) w.places-is
-        ∙ found_not items test k page places (omega arith) c.index-pages-place.is (sym c.in_ok-some.ensures ∙ w.if-some.false) c.loop-place.invariant ]
+          ap (items_at items) w.places-is
+          ∙ found_not items test k page places (omega arith) c.index-pages-place.is (sym c.in_ok-some.ensures ∙ w.if-some.false) c.loop-place.invariant
+    ]

@@ -11,8 +11,9 @@ loop-segment-preserved c =
     let k : ℕ = c.loop-segment.segment in
     let test : ℕ → Bool = λ (segment : ℕ). not (has_come (arrivals_in c.args.brought.now c.args.name) segment) in
     elim c.if-not-has_come.branch [
-      then-not-has_come+in_ok-push w ↦
-        (w.found-is ∙ w.in_ok-push.ensures.ok)
-        ∙ number_found test k c.loop-segment.found (ap not (sym c.has_come.ensures ∙ w.if-not-has_come.true)) c.loop-segment.invariant
+      | then-not-has_come+in_ok-push w ↦
+          (w.found-is ∙ w.in_ok-push.ensures.ok)
+          ∙ number_found test k c.loop-segment.found (ap not (sym c.has_come.ensures ∙ w.if-not-has_come.true)) c.loop-segment.invariant
       | else-not-has_come w ↦
-        w.found-is ∙ number_not test k c.loop-segment.found (ap not (sym c.has_come.ensures ∙ w.if-not-has_come.false)) c.loop-segment.invariant ]
+          w.found-is ∙ number_not test k c.loop-segment.found (ap not (sym c.has_come.ensures ∙ w.if-not-has_come.false)) c.loop-segment.invariant
+    ]

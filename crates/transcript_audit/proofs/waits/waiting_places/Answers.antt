@@ -15,9 +15,10 @@ loop-place-preserved c =
     let places : List ℕ = c.loop-place.places in
     let test : Build → Bool = is_waiting_in c.args.endings.now c.args.granted.now in
     elim c.if-is_waiting.branch [
-      then-is_waiting+in_ok-push w ↦
-        ap (items_at items) (w.places-is ∙ w.in_ok-push.ensures.ok)
-        ∙ found_more items test k build places (omega arith) c.index-builds-place.is (sym c.is_waiting.ensures ∙ w.if-is_waiting.true) c.loop-place.invariant
+      | then-is_waiting+in_ok-push w ↦
+          ap (items_at items) (w.places-is ∙ w.in_ok-push.ensures.ok)
+          ∙ found_more items test k build places (omega arith) c.index-builds-place.is (sym c.is_waiting.ensures ∙ w.if-is_waiting.true) c.loop-place.invariant
       | else-is_waiting w ↦
-        ap (items_at items) w.places-is
-        ∙ found_not items test k build places (omega arith) c.index-builds-place.is (sym c.is_waiting.ensures ∙ w.if-is_waiting.false) c.loop-place.invariant ]
+          ap (items_at items) w.places-is
+          ∙ found_not items test k build places (omega arith) c.index-builds-place.is (sym c.is_waiting.ensures ∙ w.if-is_waiting.false) c.loop-place.invariant
+    ]
