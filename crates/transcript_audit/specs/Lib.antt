@@ -1,2 +1,9 @@
 pub mod Kept
 pub mod Keeps
+pub mod Runs
+pub mod Measured
+pub mod Follows
+pub mod Chosen
+pub mod Reach
+pub mod Placed
+pub mod Missing

@@ -89,7 +89,7 @@ impl Kept {
     pub fn has_come(&self, name: BlobName, segment: u32) -> bool
         ensures { (h : History) → Keeps h self.now → result ≡ has_come (arrivals h name) segment }
     {
-        transport::has_come(self.brought.as_slice(), name, segment)
+        transport::has_come(self.brought.as_slice(), name, u64::from(segment))
     }
 
     /// Whether the renderer has a handle on the blob.

@@ -2,9 +2,12 @@
 ghost use Rattle.std.specs.Prelude.{◌≡◌, ℕ, ◌+◌, ◌*◌, ◌==◌, ◌^◌, ◌<◌, ◌≤◌, ◌++◌, find, length, sum, sum_by, IfOk, OnOk};
 ghost use Rattle.std.specs.Option.{option_copied};
 ghost use Rattle.transport_plan.specs.Spans.{cut_spans, piece_spans, span_at};
-ghost use Rattle.blob_model.specs.Pieces.{numbered, length_in};
+ghost use Rattle.blob_model.specs.Pieces.{numbered, length_in, spans_of};
+ghost use Rattle.blob_model.specs.Parts.{own_bytes};
 ghost use Rattle.blob_model.specs.Tally.{bytes_of};
 
+use crate::builds::Build;
+use crate::parts::own_lengths;
 use blob_words::{BlobName, ItemList, NoMemory};
 use std::alloc::Global;
 use std::marker::Model;
@@ -49,7 +52,7 @@ fn cut_span(size: u64, from: u64, len: u64, k: u64) -> (u64, u64)
 }
 
 /// The spans into which `len` bytes from a place on are cut at the multiples of `size`.
-fn cut_spans(
+pub fn cut_spans(
     size: u64,
     from: u64,
     len: u64,
@@ -104,6 +107,40 @@ pub fn numbered(
         })?;
         next += 1;
     }
+    Ok(())
+}
+
+/// Where the pieces of a blob stand; one that broke at its own line has none.
+pub fn spans_of(alloc: Global, page: u64, build: &Build) -> Result<ItemList<(u64, u64)>, NoMemory>
+    requires page { 0 < page }
+    requires fits { own_bytes build.now.parts < 2 ^ 64 }
+    ensures { IfOk result (λ found. found ≡ spans_of page build.now) }
+{
+    match build.plan {
+        None => Ok(ItemList::new(alloc)),
+        Some(_) => {
+            let lengths = own_lengths(alloc, build.parts.as_slice())?;
+            piece_spans(alloc, page, lengths.as_slice())
+        }
+    }
+}
+
+/// Puts the pieces of the next blob behind those of the others.
+pub fn put_pieces(
+    alloc: Global,
+    page: u64,
+    build: &Build,
+    pieces: &mut ItemList<Piece>,
+) -> Result<(), NoMemory>
+    requires page { 0 < page }
+    requires fits { own_bytes build.now.parts < 2 ^ 64 }
+    requires few { length pieces.old + length (spans_of page build.now) < 2 ^ 32 }
+    ensures { OnOk result (pieces.new ≡ pieces.old
+        ++ numbered build.now.name (length pieces.old) (spans_of page build.now)) }
+{
+    let spans = spans_of(alloc, page, build)?;
+    let number = pieces.len() as u32;
+    numbered(build.name, number, spans.as_slice(), pieces)?;
     Ok(())
 }
 

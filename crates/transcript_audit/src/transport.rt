@@ -1,10 +1,15 @@
 //! What was sent for a blob.
-ghost use Rattle.std.specs.Prelude.{◌≡◌, ℕ, OnOk};
-ghost use Rattle.std.specs.List.{list_any};
-ghost use Rattle.blob_model.specs.Transport.{arrivals_after, has_come};
+ghost use Rattle.std.specs.Prelude.{◌≡◌, ℕ, ◌==◌, ◌<◌, ◌^◌, not, filter, length, IfOk, OnOk};
+ghost use Rattle.std.specs.List.{list_any, range_with_len};
+ghost use Rattle.blob_model.specs.Parts.{own_bytes};
+ghost use Rattle.blob_model.specs.Transport.{arrivals_after, has_come, spans};
 ghost use Rattle.transcript_audit.specs.Kept.{arrivals_in, is_arrival};
+ghost use Rattle.transcript_audit.specs.Missing.{missing_in};
 
-use blob_words::{BlobName, ItemList, NoMemory, Octets};
+use crate::builds::Build;
+use crate::parts::{own_bytes, own_lengths};
+use crate::pieces::{cut_spans, piece_spans};
+use blob_words::{BlobName, ItemList, Limits, NoMemory, Octets, Plan};
 use session_script::Event;
 use std::alloc::Global;
 use std::marker::Model;
@@ -59,21 +64,94 @@ pub fn hear(alloc: Global, event: &Event, brought: &mut ItemList<Brought>) -> Re
     }
 }
 
-fn is_arrival(one: &Brought, name: BlobName, segment: u32) -> bool
+fn is_arrival(one: &Brought, name: BlobName, segment: u64) -> bool
     ensures { result ≡ is_arrival name segment one.now }
 {
-    one.blob == name && one.arrival.segment == segment
+    one.blob == name && u64::from(one.arrival.segment) == segment
 }
 
-fn has_arrival(brought: &[Brought], name: BlobName, segment: u32) -> bool
+fn has_arrival(brought: &[Brought], name: BlobName, segment: u64) -> bool
     ensures { result ≡ list_any (is_arrival name segment) brought.now }
 {
     brought.iter().any(|one| is_arrival(one, name, segment))
 }
 
 /// Whether the segment of the blob came.
-pub fn has_come(brought: &[Brought], name: BlobName, segment: u32) -> bool
+pub fn has_come(brought: &[Brought], name: BlobName, segment: u64) -> bool
     ensures { result ≡ has_come (arrivals_in brought.now name) segment }
 {
     has_arrival(brought, name, segment)
+}
+
+/// The spans of the blob's segments in its own bytes.
+pub fn spans(
+    alloc: Global,
+    limits: &Limits,
+    build: &Build,
+) -> Result<ItemList<(u64, u64)>, NoMemory>
+    requires { own_bytes build.now.parts < 2 ^ 64 }
+    ensures { IfOk result (λ found. found ≡ spans limits.now build.now) }
+{
+    match build.plan {
+        Some(Plan::Shared(_)) => {
+            let own = own_bytes(build.parts.as_slice()) as u64;
+            let mut found = ItemList::new(alloc);
+            cut_spans(limits.segment, 0, own, &mut found)?;
+            Ok(found)
+        }
+        Some(Plan::File(_)) => {
+            let lengths = own_lengths(alloc, build.parts.as_slice())?;
+            piece_spans(alloc, limits.page, lengths.as_slice())
+        }
+        _ => Ok(ItemList::new(alloc)),
+    }
+}
+
+/// The segments of the blob, as many as these, that did not come.
+fn missing_of(
+    alloc: Global,
+    brought: &[Brought],
+    name: BlobName,
+    count: u64,
+) -> Result<ItemList<u64>, NoMemory>
+    ensures { IfOk result (λ found. found ≡ filter
+        (λ segment. not (has_come (arrivals_in brought.now name) segment))
+        (range_with_len 0 count)) }
+{
+    let mut found = ItemList::new(alloc);
+    for segment in 0..count {
+        if !has_come(brought, name, segment) {
+            found.push(segment)?;
+        }
+    }
+    Ok(found)
+}
+
+/// The segments that did not come.
+pub fn missing(
+    alloc: Global,
+    limits: &Limits,
+    brought: &[Brought],
+    build: &Build,
+) -> Result<ItemList<u64>, NoMemory>
+    requires { own_bytes build.now.parts < 2 ^ 64 }
+    ensures { IfOk result (λ found. found ≡ missing_in limits.now brought.now build.now) }
+{
+    let count = spans(alloc, limits, build)?.len() as u64;
+    missing_of(alloc, brought, build.name, count)
+}
+
+/// Whether none is missing.
+pub fn has_all(
+    alloc: Global,
+    limits: &Limits,
+    brought: &[Brought],
+    build: &Build,
+) -> Result<bool, NoMemory>
+    requires { own_bytes build.now.parts < 2 ^ 64 }
+    ensures { IfOk result (λ all. all
+        ≡ (length (missing_in limits.now brought.now build.now) == 0)) }
+{
+    let found = missing(alloc, limits, brought, build)?;
+    Ok(found.len() == 0)
 }

@@ -1,0 +1,222 @@
+//! What a store holds after a line: memory and disk charged by what is reached.
+ghost use Rattle.std.specs.Prelude.{◌≡◌, filter, IfOk};
+ghost use Rattle.blob_model.specs.Session.{Session};
+ghost use Rattle.blob_model.specs.History.{History};
+ghost use Rattle.blob_model.specs.Builds.{build_in, builds};
+ghost use Rattle.blob_model.specs.Pages.{unlisted_place, is_memory, is_reserved, is_page, page_size};
+ghost use Rattle.blob_model.specs.Tally.{in_memory_of, reserved_of, in_page_of, files_of, job_left_in, memory_of};
+ghost use Rattle.transcript_audit.specs.Follows.{Follows};
+ghost use Rattle.transcript_audit.specs.Chosen.{items_at};
+ghost use Rattle.transcript_audit.specs.Placed.{place_at, memory_pieces, reserved_pieces, page_pieces, holds_some};
+
+use crate::builds::{Build, build_in};
+use crate::contents::Contents;
+use crate::pages::{Page, page_with};
+use crate::pieces::{Piece, bytes_of, lengths_in};
+use crate::settle::job_left_of;
+use blob_words::{ItemList, NoMemory, Plan};
+use std::alloc::Global;
+
+/// Whether the piece, where no page file lists it, is reserved on the disk.
+fn is_planned(builds: &[Build], piece: &Piece) -> bool
+    ensures { result ≡ is_reserved (unlisted_place (build_in builds.now piece.now.blob)) }
+{
+    match build_in(builds, piece.blob) {
+        Some(build) => matches!(build.plan, Some(Plan::File(_))),
+        None => false,
+    }
+}
+
+/// Whether the piece is in memory.
+#[tactic(auto, using(crate::proofs::Placing::unlisted_memory))]
+fn is_in_memory(pages: &[Page], builds: &[Build], piece: &Piece) -> bool
+    ensures { result ≡ is_memory (place_at pages.now builds.now piece.now) }
+{
+    match page_with(pages, piece.number) {
+        Some(_) => false,
+        None => !is_planned(builds, piece),
+    }
+}
+
+/// Whether the piece is reserved on the disk.
+fn is_reserved(pages: &[Page], builds: &[Build], piece: &Piece) -> bool
+    ensures { result ≡ is_reserved (place_at pages.now builds.now piece.now) }
+{
+    match page_with(pages, piece.number) {
+        Some(_) => false,
+        None => is_planned(builds, piece),
+    }
+}
+
+/// Whether the piece is in the page file.
+#[tactic(auto, using(crate::proofs::Placing::unlisted_page))]
+fn is_in_page(pages: &[Page], builds: &[Build], number: u32, piece: &Piece) -> bool
+    ensures { result ≡ is_page number (place_at pages.now builds.now piece.now) }
+{
+    match page_with(pages, piece.number) {
+        Some(page) => page.number == number,
+        None => false,
+    }
+}
+
+/// Of these pieces those in memory.
+fn memory_pieces(
+    alloc: Global,
+    pages: &[Page],
+    builds: &[Build],
+    list: &[Piece],
+) -> Result<ItemList<Piece>, NoMemory>
+    ensures { IfOk result (λ found. found ≡ memory_pieces pages.now builds.now list.now) }
+{
+    let mut found = ItemList::new(alloc);
+    for piece in list {
+        if is_in_memory(pages, builds, piece) {
+            found.push(*piece)?;
+        }
+    }
+    Ok(found)
+}
+
+/// Those that are reserved.
+fn reserved_pieces(
+    alloc: Global,
+    pages: &[Page],
+    builds: &[Build],
+    list: &[Piece],
+) -> Result<ItemList<Piece>, NoMemory>
+    ensures { IfOk result (λ found. found ≡ reserved_pieces pages.now builds.now list.now) }
+{
+    let mut found = ItemList::new(alloc);
+    for piece in list {
+        if is_reserved(pages, builds, piece) {
+            found.push(*piece)?;
+        }
+    }
+    Ok(found)
+}
+
+/// Those in one page file.
+fn page_pieces(
+    alloc: Global,
+    pages: &[Page],
+    builds: &[Build],
+    number: u32,
+    list: &[Piece],
+) -> Result<ItemList<Piece>, NoMemory>
+    ensures { IfOk result (λ found. found ≡ page_pieces pages.now builds.now number list.now) }
+{
+    let mut found = ItemList::new(alloc);
+    for piece in list {
+        if is_in_page(pages, builds, number, piece) {
+            found.push(*piece)?;
+        }
+    }
+    Ok(found)
+}
+
+/// Whether one of the pieces is in the page file.
+fn holds_some(
+    alloc: Global,
+    pages: &[Page],
+    builds: &[Build],
+    list: &[Piece],
+    page: &Page,
+) -> Result<bool, NoMemory>
+    ensures { IfOk result (λ some. some ≡ holds_some pages.now builds.now list.now page.now) }
+{
+    let found = page_pieces(alloc, pages, builds, page.number, list)?;
+    Ok(found.len() > 0)
+}
+
+/// The places of the page files that hold one of the pieces.
+fn held_files(
+    alloc: Global,
+    pages: &[Page],
+    builds: &[Build],
+    list: &[Piece],
+) -> Result<ItemList<usize>, NoMemory>
+    ensures { IfOk result (λ places. items_at pages.now places
+        ≡ filter (holds_some pages.now builds.now list.now) pages.now) }
+{
+    let mut places = ItemList::new(alloc);
+    for place in 0..pages.len() {
+        let some = holds_some(alloc, pages, builds, list, &pages[place])?;
+        if some {
+            places.push(place)?;
+        }
+    }
+    Ok(places)
+}
+
+/// The bytes of a page file.
+pub fn page_size(all: &[Piece], page: &Page) -> u128
+    ensures { result ≡ page_size all.now page.now }
+{
+    lengths_in(all, page.pieces.as_slice())
+}
+
+impl Contents {
+    /// Of these pieces those in memory.
+    pub fn in_memory(&self, list: &[Piece]) -> Result<ItemList<Piece>, NoMemory>
+        ensures { IfOk result (λ found. (s : Session) (h : History) → Follows s h self.now
+            → found ≡ in_memory_of h (builds s.limits.page h) list.now) }
+    {
+        let pages = self.kept.pages.as_slice();
+        let found = memory_pieces(self.alloc, pages, self.builds.as_slice(), list)?;
+        Ok(found)
+    }
+
+    /// Those that are reserved on the disk.
+    pub fn reserved(&self, list: &[Piece]) -> Result<ItemList<Piece>, NoMemory>
+        ensures { IfOk result (λ found. (s : Session) (h : History) → Follows s h self.now
+            → found ≡ reserved_of h (builds s.limits.page h) list.now) }
+    {
+        let pages = self.kept.pages.as_slice();
+        let found = reserved_pieces(self.alloc, pages, self.builds.as_slice(), list)?;
+        Ok(found)
+    }
+
+    /// Those in one page file.
+    pub fn in_page(&self, page: &Page, list: &[Piece]) -> Result<ItemList<Piece>, NoMemory>
+        ensures { IfOk result (λ found. (s : Session) (h : History) → Follows s h self.now
+            → found ≡ in_page_of h (builds s.limits.page h) page.now list.now) }
+    {
+        let pages = self.kept.pages.as_slice();
+        let found = page_pieces(self.alloc, pages, self.builds.as_slice(), page.number, list)?;
+        Ok(found)
+    }
+
+    /// The places of the page files that hold one of these pieces.
+    pub fn files(&self, list: &[Piece]) -> Result<ItemList<usize>, NoMemory>
+        ensures { IfOk result (λ places. (s : Session) (h : History) → Follows s h self.now
+            → items_at self.now.kept.pages places
+            ≡ files_of h (builds s.limits.page h) list.now) }
+    {
+        let pages = self.kept.pages.as_slice();
+        let places = held_files(self.alloc, pages, self.builds.as_slice(), list)?;
+        Ok(places)
+    }
+
+    /// The bytes of those of these pieces that are in memory.
+    pub fn memory(&self, list: &[Piece]) -> Result<u128, NoMemory>
+        ensures { IfOk result (λ bytes. (s : Session) (h : History) → Follows s h self.now
+            → bytes ≡ memory_of h (builds s.limits.page h) list.now) }
+    {
+        let found = self.in_memory(list)?;
+        Ok(bytes_of(found.as_slice()))
+    }
+
+    /// Of these pieces those that the job in flight still has, in its order.
+    pub fn job_left(&self, list: &[Piece]) -> Result<ItemList<u32>, NoMemory>
+        ensures { IfOk result (λ left. (s : Session) (h : History) → Follows s h self.now
+            → left ≡ job_left_in h list.now) }
+    {
+        match &self.kept.job {
+            Some(job) => {
+                let left = job_left_of(self.alloc, job, list)?;
+                Ok(left)
+            }
+            None => Ok(ItemList::new(self.alloc)),
+        }
+    }
+}
