@@ -33,7 +33,7 @@ use Rattle.store_laws.specs.Uses.{own_pieces}
 use Rattle.store_laws.proofs.Paired.{AreOutlined, IsTold, by_first, outline_at, rest_of}
 
 -- the status tells how the blob ended
-told_now : (s : Session) (h : History) (build : Build) → IfSome (ended h build.name) (λ (status : Status). is_pending status ≡ false)
+pub told_now : (s : Session) (h : History) (build : Build) → IfSome (ended h build.name) (λ (status : Status). is_pending status ≡ false)
     → told (status_now s h build) ≡ ended h build.name
 told_now s h build apart = go (ended h build.name) apart
   where

@@ -20,3 +20,9 @@ pub mod Slots
 pub mod PageCharges
 pub mod Agreeing
 pub mod PageNumbers
+pub mod Unmarked
+pub mod LineRefusals
+pub mod AfterLines
+pub mod Beginning
+pub mod Telling
+pub mod UrlOwners

@@ -136,7 +136,7 @@ module _ (s : Session) (h : History) (stands : ℕ → Bool) (book : Book) (shar
     (files : Files) (order : List (ℕ × ℕ))
     (contents : ContentsStand s h stands book shares rows quota files order) (exact : AreExact s h stands) (rest : IsAtRest s.limits.page h)
     (counted : IsCounted book shares rows)
-    (apart : AreGatheredApart s h shares rows) (paged : ArePaged s h shares rows files) where
+    (apart : AreGatheredApart s h shares rows) (paged : ArePaged s h shares rows) where
   abbrev blobs : List Build
   blobs = builds s.limits.page h
 
@@ -232,7 +232,7 @@ module _ (s : Session) (h : History) (stands : ℕ → Bool) (book : Book) (shar
       omega (arith, here, later, sum_by-cons (λ (one : Held). one.len) held list, sum_by-cons (length_in all) held.piece.0 (held_numbers list))
 
   pub job_charged : held_bytes (left_of files.job) ≡ sum_by (length_in all) (job_left_in h (reached s.limits.page h))
-  job_charged = sum_lengths (left_of files.job) paged.lengths ∙ ap (sum_by (length_in all)) (go files.job (in_flight h) refl contents.page_files_stand.job)
+  job_charged = sum_lengths (left_of files.job) contents.page_files_stand.job_lengths ∙ ap (sum_by (length_in all)) (go files.job (in_flight h) refl contents.page_files_stand.job)
     where
       go : (one : Option FlyingJob) (flying : Option Job) → in_flight h ≡ flying → option_map job_as one ≡ option_map (with_held (holds_piece shares)) flying
           → held_numbers (left_of one) ≡ option_map_or (λ (job : Job). filter (λ (number : ℕ). list_any (λ (piece : Piece). piece.number == number)

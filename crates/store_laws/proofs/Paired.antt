@@ -42,7 +42,7 @@ pub record IsTold (s : Session) (h : History) (stands : ℕ → Bool) (pair : Bu
   pub outline_is : outline pair.1 ≡ outline_of s h pair.0
 
 module _ (s : Session) (h : History) (stands : ℕ → Bool) where
-  first_of : (build : Build) (list : List Build) (held : Option Entry) (entries : List (Option Entry)) → AreOutlined s h stands (build ∷ list) (held ∷ entries)
+  pub first_of : (build : Build) (list : List Build) (held : Option Entry) (entries : List (Option Entry)) → AreOutlined s h stands (build ∷ list) (held ∷ entries)
       → option_map outline held ≡ outline_at s h stands build
   first_of build list held entries e = cc
 

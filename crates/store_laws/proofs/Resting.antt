@@ -60,7 +60,7 @@ both_of P Q R [] f p q = tt
 both_of P Q R (x ∷ xs) f p q = (f x p.0 q.0, both_of P Q R xs f p.1 q.1)
 
 -- where no ending is owed, none is of any blob
-each_ends : (s : Session) (h : History) (list : List Build) → endings_of s h list ≡ [] → AllByRecursion (λ (build : Build). ending_answers s h build ≡ []) list
+pub each_ends : (s : Session) (h : History) (list : List Build) → endings_of s h list ≡ [] → AllByRecursion (λ (build : Build). ending_answers s h build ≡ []) list
 each_ends s h [] e = tt
 each_ends s h (build ∷ list) e =
     let parts = nil_parts (ending_answers s h build) (endings_of s (said_all h (ending_answers s h build)) list) e in

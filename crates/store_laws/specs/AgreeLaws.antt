@@ -38,7 +38,7 @@ pub record IsKept (s : Session) (h : History) (book : Book) (shares : List (Opti
     (files : Files) : Type 0 where
   pub counted : IsCounted book shares rows
   pub apart : AreGatheredApart s h shares rows
-  pub paged : ArePaged s h shares rows files
+  pub paged : ArePaged s h shares rows
   pub used : quota.used ≡ weights memory_weight shares + gathered rows
 
 -- when the live blobs stand and no others, what is held is what is reached, and is charged so

@@ -15,3 +15,4 @@ pub mod CellLaws
 pub mod ReachLaws
 pub mod PageLaws
 pub mod AgreeLaws
+pub mod LineLaws

@@ -101,5 +101,6 @@ pub record PagesStand (all : List Piece) (facts : PageFacts) (limit : ℕ) (shar
   pub reserved : files.reserved ≡ weights reserved_weight shares
   pub job : option_map job_as files.job ≡ option_map (with_held (holds_piece shares)) facts.flying
   pub job_slots : AllByRecursion (IsSlotOf shares) (left_of files.job)
+  pub job_lengths : AllByRecursion (λ (held : Held). held.len ≡ length_in all held.piece.0) (left_of files.job)
   pub same_jobs : files.jobs ≡ facts.jobs
   pub same_paging : files.paging ≡ facts.paging

@@ -6,8 +6,7 @@ use Rattle.item_shares.specs.declared.item.Item.{Item}
 use Rattle.item_shares.specs.declared.item.Item.TheVariants.{Paged}
 use Rattle.item_shares.specs.declared.shares.Share.{Share}
 use Rattle.item_shares.specs.Shares.{item_at}
-use Rattle.page_files.specs.declared.held.Held.{Held}
-use Rattle.page_files.specs.Files.{Files, charge, left_of}
+use Rattle.page_files.specs.Files.{Files, charge}
 use Rattle.page_files.specs.Pages.{held_count}
 use Rattle.quota_queue.specs.Queue.{Queue}
 use Rattle.blob_model.specs.Session.{Session}
@@ -17,7 +16,7 @@ use Rattle.blob_model.specs.Legal.{IsLegalFrom}
 use Rattle.blob_model.specs.Builds.{builds}
 use Rattle.blob_model.specs.Jobs.{is_in_job}
 use Rattle.blob_model.specs.Pages.{Page, asked, pages}
-use Rattle.blob_model.specs.Pieces.{Piece, length_in, pieces}
+use Rattle.blob_model.specs.Pieces.{Piece, pieces}
 use Rattle.blob_model.specs.Tally.{disk, files as page_files}
 use Rattle.store_laws.specs.PageFiles.{writes}
 use Rattle.store_laws.specs.ReachLaws.{AreGatheredApart, IsAtRest, IsCounted}
@@ -41,12 +40,10 @@ abbrev pub IsUnasked : List ℕ → Item → Type 0
 IsUnasked removed (Paged piece page off len) = list_any (λ (each : ℕ). each == page.0) removed ≡ false
 IsUnasked removed item = Unit {0}
 
--- page numbers are taken one after the other, no item is in a page file that was asked for, the job's pieces have their lengths, and no job names a
--- piece that is gathered
-pub record ArePaged (s : Session) (h : History) (shares : List (Option Share)) (rows : List (Option Row)) (files : Files) : Type 0 where
+-- page numbers are taken one after the other, no item is in a page file that was asked for, and no job names a piece that is gathered
+pub record ArePaged (s : Session) (h : History) (shares : List (Option Share)) (rows : List (Option Row)) : Type 0 where
   pub in_turn : pages h ≡ numbered_pages 0 (writes h)
   pub unasked : (slot : ℕ) → IfSome (item_at shares slot) (IsUnasked (asked h))
-  pub lengths : AllByRecursion (λ (held : Held). held.len ≡ length_in (pieces s.limits.page h) held.piece.0) (left_of files.job)
   pub unnamed : AllByRecursion (λ (piece : Piece). is_gathered (builds s.limits.page h) rows piece.blob ≡ true
       → is_in_job h piece.number ≡ false) (pieces s.limits.page h)
 
@@ -59,4 +56,4 @@ abbrev pub DiskIsCharged : Type 0
 DiskIsCharged =
     (s : Session) (h : History) (stands : ℕ → Bool) (book : Book) (shares : List (Option Share)) (rows : List (Option Row)) (quota : Queue) (files : Files)
     (order : List (ℕ × ℕ)) → ContentsStand s h stands book shares rows quota files order → AreExact s h stands → IsAtRest s.limits.page h
-    → IsCounted book shares rows → AreGatheredApart s h shares rows → ArePaged s h shares rows files → DiskIsTold s.limits.page h files
+    → IsCounted book shares rows → AreGatheredApart s h shares rows → ArePaged s h shares rows → DiskIsTold s.limits.page h files

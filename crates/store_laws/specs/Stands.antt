@@ -56,7 +56,7 @@ pub record Parts : Type 0 where
   pub files : List (List ℕ × FileNote)
   pub urls : List (List ℕ × Url)
   pub renderers : Table
-  pub readers : List OpenReader
+  pub readers : List (ℕ × OpenReader)
   pub lines : ℕ
   pub pieces : ℕ
   pub weight : ℕ

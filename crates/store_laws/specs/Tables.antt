@@ -1,7 +1,10 @@
 -- The tables beside the blobs, as a history says: renderers, URLs, files, readers, data handles, and the changes on the disk. Own.
-use Rattle.std.specs.Prelude.{ℕ, ◌≡◌, ◌==◌, ◌&&◌, Bool, not, List, map, length, Option, None, Some, option_and_then, slice_get, if◌then◌else◌}
+use Rattle.std.specs.Prelude.{ℕ, ◌≡◌, ◌==◌, ◌&&◌, Bool, not, List, map, find, length, Option, None, Some, option_and_then, slice_get, if◌then◌else◌}
 use Rattle.std.specs.Option.{option_map}
 use Rattle.std.specs.List.{list_any}
+use Rattle.std.specs.BTreeMap.{is_at}
+use Rattle.std.specs.Map.{lookup}
+use Rattle.std.specs.Ordering.{nat_cmp}
 use Rattle.renderer_table.specs.Table.{Table, count_of, was_spawned}
 use Rattle.renderer_table.specs.Counted.{origin_at}
 use Rattle.url_store.specs.Urls.{url_at}
@@ -42,13 +45,18 @@ pub record FilesStand (names : List (List ℕ)) (state : List ℕ → Option Fil
   pub stamps : (name : List ℕ) → option_map (λ (note : FileNote). note.last) (note_of name files) ≡ last name
   pub many : length files ≡ length names
 
+-- each open reader under its number
+pub record ReadersStand (list : List OpenReader) (open_readers : List (ℕ × OpenReader)) : Type 0 where
+  pub each : (number : ℕ) → lookup (is_at (nat_cmp number)) open_readers ≡ find (λ (reader : OpenReader). reader.number == number) list
+  pub many : length open_readers ≡ length list
+
 -- renderers, URLs, files and readers
 pub record TablesStand (s : Session) (h : History) (table : Table) (urls : List (List ℕ × Url)) (files : List (List ℕ × FileNote))
-    (open_readers : List OpenReader) : Type 0 where
+    (open_readers : List (ℕ × OpenReader)) : Type 0 where
   pub renderers : RenderersStand (spawned h) (is_alive h) (origin_of h) (count h) table
   pub urls_stand : UrlsStand (entries h) (origin_of h) urls
   pub files_stand : FilesStand (file_names h) (recorded h) (last_stamp h) files
-  pub readers_stand : open_readers ≡ readers s.limits.page h
+  pub readers_stand : ReadersStand (readers s.limits.page h) open_readers
 
 -- an object tells the size and the bytes that it told at first
 abbrev pub seen_as : Handle → ℕ × Option (List ℕ)

@@ -3,6 +3,7 @@ ghost use Rattle.store_laws.specs.PageLaws.{ArePagesInTurn, DiskIsCharged};
 ghost use Rattle.store_laws.specs.ReachLaws.{ChargesAreTold, HeldIsReached, SettledRests, SlotsAreReached};
 ghost use Rattle.store_laws.specs.CellLaws.{DenotedLaws};
 ghost use Rattle.store_laws.specs.GroupLaws.{GroupLegal, LateListsKeepLives, OwnLives};
+ghost use Rattle.store_laws.specs.LineLaws.{LinesStand, NewStands, NoneIsMarked};
 
 /// A line's own answers and the seven lists of settling, each after the one before, make a legal
 /// group.
@@ -69,4 +70,20 @@ pub fn entries_agree()
 /// and data handles are as the tally and the history say.
 pub fn reaches_follows()
     ensures { ReachesFollows }
+{}
+
+/// Behind each group of a legal transcript no unfinished entry is marked to break.
+pub fn none_is_marked()
+    ensures { NoneIsMarked }
+{}
+
+/// The parts stand for the history with a line that is refused, and with one that tells how a blob
+/// stands, where a renderer comes, or where a handle goes.
+pub fn lines_stand()
+    ensures { LinesStand }
+{}
+
+/// A store that has heard nothing stands for what comes after the line of the limits.
+pub fn new_stands()
+    ensures { NewStands }
 {}
