@@ -1,0 +1,4 @@
+pub mod Seen
+pub mod Incoming
+pub mod Shelf
+pub mod Memory
