@@ -1,4 +1,11 @@
 pub mod Seen
-pub mod Incoming
+pub mod Kept
+pub mod Group
+pub mod Sound
+pub mod Invariants
+pub mod Acts
+pub mod Plain
+pub mod Arrays
+pub mod Boxes
 pub mod Shelf
 pub mod Memory

@@ -15,7 +15,7 @@ pub struct Incoming {
 impl Model for Incoming {
     ghost use Rattle.std.specs.Prelude.{◌+◌, ◌≤◌, vec_len};
     ghost use Rattle.std.specs.Vec.{vec_capacity};
-    ghost use Rattle.page_volumes.specs.Incoming.{Bytes};
+    ghost use Rattle.page_volumes.specs.Kept.{Bytes};
 
     ghost Value = { Bytes };
 

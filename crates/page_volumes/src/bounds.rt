@@ -1,0 +1,2 @@
+/// The most volumes of a group.
+pub const MOST_VOLUMES: usize = 16;
