@@ -14,29 +14,28 @@ use std::fs;
 use std::test::Fail;
 
 // The answer of a step, with the bytes that it read.
-fn tell(end: StepEnd, bytes: &[u8], text: &mut String) -> Result<bool, Fail> {
+fn tell(end: StepEnd, bytes: &[u8], text: &mut String) -> Result<(), Fail> {
     match end {
         StepEnd::Bytes(count) => {
             let (front, _) = bytes.split_at(count.min(bytes.len()));
             write!(text, "{}|", str::from_utf8(front).unwrap_or("?"))?;
-            return Ok(true);
         }
         StepEnd::End => text.push_str("end")?,
-        StepEnd::FileChanged(view) => write!(text, "file-changed {view}")?,
-        StepEnd::PageFault(page) => write!(text, "page-fault {}", page.0)?,
-        StepEnd::HandleFault(slot) => write!(text, "handle-failed {slot}")?,
+        StepEnd::FileChanged(view) => write!(text, "file-changed {view}|")?,
+        StepEnd::PageFault(page) => write!(text, "page-fault {}|", page.0)?,
+        StepEnd::HandleFault(slot) => write!(text, "handle-failed {slot}|")?,
     }
-    Ok(false)
+    Ok(())
 }
 
-/// What happens behind the first step.
+/// What happens behind the first step, until a step fails.
 #[derive(Clone, Copy)]
 pub enum Trouble {
     Nothing,
     /// The file of this name is recorded anew, at stamp 9.
     NewFile,
-    /// The folder of the pages goes.
-    NoFolder,
+    /// The page goes.
+    NoPage,
 }
 
 fn make_trouble(
@@ -48,11 +47,20 @@ fn make_trouble(
     match trouble {
         Trouble::Nothing => Ok(()),
         Trouble::NewFile => Ok(files.note(name, 9, b"another")?),
-        Trouble::NoFolder => Ok(fs::remove_dir_all(rt, "reader_pages")?),
+        Trouble::NoPage => Ok(fs::remove_file(rt, "reader_pages/0")?),
     }
 }
 
-/// Reads all bytes of the views in steps of at most `most` bytes.
+// The page is there again.
+fn mend(rt: &HostRuntime, trouble: Trouble) -> Result<(), Fail> {
+    match trouble {
+        Trouble::NoPage => Ok(fs::write(rt, "reader_pages/0", "0123456789")?),
+        _ => Ok(()),
+    }
+}
+
+/// Reads all bytes of the views in steps of at most `most` bytes. A step that fails is made once
+/// more.
 pub fn read<D: PageDisk>(
     rt: &HostRuntime,
     views: &ViewList,
@@ -71,17 +79,28 @@ pub fn read<D: PageDisk>(
     let mut text = String::new(rt.alloc());
     let mut buffer = vec![in rt.alloc(); 0u8; most]?;
     let mut reader = Reader::start(views.total(), 0, None)?;
+    let mut failed = false;
     for turn in 0..1_000 {
         if !views_lie(views.as_slice(), shares, handles) {
             text.push_str("no views")?;
             return Ok(text);
         }
         let end = reader.step(views, shares, files, disk, handles, buffer.as_mut_slice());
-        if !tell(end, buffer.as_slice(), &mut text)? {
-            return Ok(text);
-        }
-        if turn == 0 {
-            make_trouble(rt, trouble, name, files)?;
+        tell(end, buffer.as_slice(), &mut text)?;
+        match end {
+            StepEnd::End => return Ok(text),
+            StepEnd::Bytes(_) => {
+                if turn == 0 {
+                    make_trouble(rt, trouble, name, files)?;
+                }
+            }
+            _ => {
+                if failed {
+                    return Ok(text);
+                }
+                failed = true;
+                mend(rt, trouble)?;
+            }
         }
     }
     Ok(text)

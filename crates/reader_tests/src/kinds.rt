@@ -122,15 +122,40 @@ fn every_width_gives_the_same_bytes(rt: HostRuntime) -> Result<(), Fail> {
 }
 
 #[test]
-fn the_first_view_that_fails_is_named(rt: HostRuntime) -> Result<(), Fail> {
+fn a_failure_leaves_the_place(rt: HostRuntime) -> Result<(), Fail> {
     for (most, failing, trouble, text) in [
-        (3, 0, Trouble::Nothing, "abc|345|wor|handle-failed 0"),
-        (3, 1, Trouble::Nothing, "abc|345|wor|ldy|handle-failed 0"),
-        (3, 9, Trouble::NewFile, "abc|345|file-changed 2"),
-        (7, 9, Trouble::NewFile, "abc345w|file-changed 2"),
-        (3, 9, Trouble::NoFolder, "abc|page-fault 0"),
-        (4, 9, Trouble::NoFolder, "abc3|page-fault 0"),
-        (100, 0, Trouble::Nothing, "handle-failed 0"),
+        (
+            3,
+            0,
+            Trouble::Nothing,
+            "abc|345|wor|handle-failed 0|ldy|z!|end",
+        ),
+        (
+            3,
+            1,
+            Trouble::Nothing,
+            "abc|345|wor|ldy|handle-failed 0|z!|end",
+        ),
+        (
+            3,
+            9,
+            Trouble::NewFile,
+            "abc|345|file-changed 2|file-changed 2|",
+        ),
+        (
+            7,
+            9,
+            Trouble::NewFile,
+            "abc345w|file-changed 2|file-changed 2|",
+        ),
+        (3, 9, Trouble::NoPage, "abc|page-fault 0|345|wor|ldy|z!|end"),
+        (4, 9, Trouble::NoPage, "abc3|page-fault 0|45wo|rldy|z!|end"),
+        (
+            100,
+            0,
+            Trouble::Nothing,
+            "handle-failed 0|abc345worldyz!|end",
+        ),
     ] {
         let answers = answers(&rt, most, &[failing], trouble)?;
         assert_eq!(rt; answers.as_str(), text);

@@ -7,3 +7,5 @@ mod driver;
 mod kinds;
 #[cfg(test)]
 mod lie;
+#[cfg(test)]
+mod many;

@@ -12,7 +12,8 @@ use blob_items::View;
 use data_handles::{Boxed, DataHandle, HandleTable};
 use item_shares::{Item, Shares};
 
-fn fits(off: u64, len: u64, size: u64) -> bool
+/// Whether so many bytes from a place on are inside so many.
+pub fn fits(off: u64, len: u64, size: u64) -> bool
     ensures { OnTrue result (off + len ≤ size) }
 {
     off <= size && len <= size - off
@@ -60,6 +61,7 @@ fn view_lies(view: &View, shares: &Shares, handles: &HandleTable) -> bool
     }
 }
 
+/// Whether all views lie inside their items.
 pub fn views_lie(views: &[View], shares: &Shares, handles: &HandleTable) -> bool
     ensures { (files : List (List ℕ × FileNote)) → OnTrue result (AllByRecursion
         (ViewLies (origins files None (of_table ⟦<Boxed as DataHandle>⟧.seen handles.now)) shares.now) views.now) }
