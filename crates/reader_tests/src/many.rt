@@ -3,7 +3,7 @@ ghost use Rattle.std.specs.Prelude.{◌≡◌, ◌<◌, None, length};
 ghost use Rattle.std.specs.Bool.{OnTrue};
 ghost use Rattle.std.specs.List.{AllByRecursion};
 ghost use Rattle.range_reader.specs.Bytes.{Origins};
-ghost use Rattle.range_reader.specs.Places.{ViewLies};
+ghost use Rattle.range_reader.specs.Places.{Lies, ViewLies};
 
 use crate::lie::fits;
 use blob_items::{View, ViewList};
@@ -35,12 +35,24 @@ fn fill(alloc: Global, shares: &mut Shares, count: u32) -> Result<ViewList, NoMe
     Ok(views)
 }
 
+fn has_in_memory(item: &Item, off: u64, len: u64) -> bool
+    ensures { (from : Origins) → OnTrue result (Lies from off len item.now) }
+{
+    match item {
+        Item::Memory { bytes, .. } => fits(off, len, bytes.len() as u64),
+        Item::Paged { .. } => false,
+        Item::Reserved { .. } => false,
+        Item::File { .. } => false,
+        Item::Range { .. } => false,
+    }
+}
+
 fn is_in_memory(view: &View, shares: &Shares) -> bool
     ensures { (from : Origins) → OnTrue result (ViewLies from shares.now view.now) }
 {
     match shares.get(view.slot) {
-        Some(Item::Memory { bytes, .. }) => fits(view.off, view.len, bytes.len() as u64),
-        _ => false,
+        Some(item) => has_in_memory(item, view.off, view.len),
+        None => false,
     }
 }
 
