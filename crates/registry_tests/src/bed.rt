@@ -1,3 +1,4 @@
+//! Calls on a registry whose blobs have no bytes. The tests stand on them, and what times the passes.
 ghost use Rattle.std.specs.Prelude.{◌≡◌, [], true, length, sum_by, IfOk, OnOk};
 ghost use Rattle.std.specs.List.{AllByRecursion};
 ghost use Rattle.blob_entries.specs.Contents.{step_len};
@@ -121,4 +122,36 @@ pub fn sweep(registry: &mut Registry, shares: &mut Shares) -> Result<Swept, NoMe
     ensures { OnOk result (HasNoViews registry.new) }
 {
     registry.sweep(shares)
+}
+
+/// Registers blobs from 0 on, each with a root, of which each has the one before it as its source
+/// where they are a chain. The first waits for quota.
+pub fn build_all(
+    alloc: Global,
+    registry: &mut Registry,
+    count: u32,
+    chain: bool,
+) -> Result<(), NoMemory>
+    requires { HasNoViews registry.old }
+    ensures { OnOk result (HasNoViews registry.new) }
+{
+    for blob in 0..count {
+        let before = [blob.saturating_sub(1)];
+        let sources: &[u32] = if chain && blob > 0 { &before } else { &[] };
+        if build(alloc, registry, blob, sources, blob == 0).is_err() {
+            return Err(NoMemory);
+        }
+        hold(registry, blob);
+    }
+    Ok(())
+}
+
+/// One root fewer of each blob from 0 on.
+pub fn let_all_go(registry: &mut Registry, count: u32)
+    requires { HasNoViews registry.old }
+    ensures { HasNoViews registry.new }
+{
+    for blob in 0..count {
+        let_go(registry, blob);
+    }
 }

@@ -1,7 +1,7 @@
 //! Tests of the registry: scripts of calls with their answers, and very many passes.
 #![tactic(auto)]
 
-mod bed;
+pub mod bed;
 #[cfg(test)]
 mod ends;
 #[cfg(test)]

@@ -1,34 +1,11 @@
 ghost use Rattle.std.specs.Prelude.{◌≡◌, OnOk};
 ghost use Rattle.registry_tests.specs.Bare.{HasNoViews};
 
-use crate::bed::{build, finish, grant, hold, let_go, name, sweep};
+use crate::bed::{build_all, finish, grant, let_all_go, let_go, name, sweep};
 use blob_registry::{Endings, Names, Registry};
 use blob_words::{NoMemory, Status};
 use item_shares::Shares;
-use std::alloc::Global;
 use std::test::Fail;
-
-// Blobs from 0 on, each with a root, of which each has the one before it as its source where they
-// are a chain. The first waits.
-fn build_all(
-    alloc: Global,
-    registry: &mut Registry,
-    count: u32,
-    chain: bool,
-) -> Result<(), NoMemory>
-    requires { HasNoViews registry.old }
-    ensures { OnOk result (HasNoViews registry.new) }
-{
-    for blob in 0..count {
-        let before = [blob.saturating_sub(1)];
-        let sources: &[u32] = if chain && blob > 0 { &before } else { &[] };
-        if build(alloc, registry, blob, sources, blob == 0).is_err() {
-            return Err(NoMemory);
-        }
-        hold(registry, blob);
-    }
-    Ok(())
-}
 
 // Whether all these blobs are done, in order of build.
 fn are_done(endings: &Endings, count: u32) -> bool {
@@ -57,16 +34,6 @@ fn are_dropped(names: &Names, count: u32) -> bool {
         }
     }
     true
-}
-
-// One root fewer of each.
-fn let_all_go(registry: &mut Registry, count: u32)
-    requires { HasNoViews registry.old }
-    ensures { HasNoViews registry.new }
-{
-    for blob in 0..count {
-        let_go(registry, blob);
-    }
 }
 
 // How many of so many passes over endings, and of so many sweeps, say something.

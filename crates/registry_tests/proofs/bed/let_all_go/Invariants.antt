@@ -1,5 +1,5 @@
 use Rattle.registry_tests.specs.Bare.{HasNoViews}
-use Rattle.registry_tests.proofs.many.build_all.Given as goal
+use Rattle.registry_tests.proofs.bed.let_all_go.Given as goal
 
 abbrev pub invariant-loop-blob : goal.invariant-loop-blob
 invariant-loop-blob l = HasNoViews l.registry
