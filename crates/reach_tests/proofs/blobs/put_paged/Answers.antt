@@ -1,0 +1,6 @@
+use Rattle.std.proofs.Common.{arith}
+use Rattle.reach_tests.proofs.Room.{first_room}
+use Rattle.reach_tests.proofs.blobs.put_paged.Goals as goal
+
+pub returns-clause-room : goal.returns-clause-room
+returns-clause-room c = first_room _ _ _ _ c.requires c.in_ok-register.ensures.ok (omega arith)
