@@ -39,5 +39,5 @@ module _ (name size : ℕ) (owner : RendererId) (kind : List ℕ) (view : View) 
   first_room old new empty recipe none no_step is same =
       let steps : recipe ≡ Fixed view ∷ [] = is ∙ ap (λ (list : List Step). list ++ Fixed view ∷ []) no_step in
       let whole : new ≡ pushed (book_of [] []) name (made (Fixed view ∷ [])) =
-          same ∙ ap (λ (book : Book). pushed book name (made recipe)) none ∙ ap (λ (list : List Step). pushed (book_of [] []) name (made list)) steps in
+      same ∙ ap (λ (book : Book). pushed book name (made recipe)) none ∙ ap (λ (list : List Step). pushed (book_of [] []) name (made list)) steps in
       subst (λ (book : Book). HasRoom book.names book.entries) (sym whole) (one_room name (made (Fixed view ∷ [])) fits)
