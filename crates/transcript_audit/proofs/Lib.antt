@@ -1,6 +1,5 @@
 mod Latest
 mod RunCells
-mod PieceNumbers
 mod Living
 mod Reaching
 mod Lifted

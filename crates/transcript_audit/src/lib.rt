@@ -2,7 +2,6 @@
 #![tactic(auto)]
 
 pub mod builds;
-pub mod construct;
 pub mod contents;
 pub mod entries;
 pub mod handles;
