@@ -5,6 +5,7 @@ mod ahead;
 mod copies;
 pub mod count;
 mod filled;
+pub mod find;
 mod line_buffer;
 pub mod line_reader;
 pub mod line_step;
@@ -19,6 +20,7 @@ mod take;
 pub mod write_sink;
 
 pub use count::counted;
+pub use find::find_byte;
 pub use line_reader::LineReader;
 pub use line_step::LineStep;
 pub use memory_sink::MemorySink;

@@ -1,4 +1,4 @@
-ghost use Rattle.std.specs.Prelude.{◌≡◌, ◌≢◌, ◌<◌, ◌≤◌, ◌==◌, ◌^◌, [], length, position};
+ghost use Rattle.std.specs.Prelude.{◌≡◌, ◌≢◌, ◌<◌, ◌≤◌, ◌^◌, [], length};
 ghost use Rattle.std.specs.Io.KnownBytes.{prepend_known};
 ghost use Rattle.blob_source.specs.Faults.{Rose};
 ghost use Rattle.blob_source.specs.Lines.{Takes};
@@ -6,17 +6,11 @@ ghost use Rattle.blob_source.specs.Parts.{TakesPiece};
 
 use crate::ahead::Ahead;
 use crate::filled::Filled;
+use crate::find::find_byte;
 use crate::line_buffer::{LONGEST_LINE, LineBuffer};
 use crate::line_step::LineStep;
 use crate::piece::Piece;
 use crate::source::Source;
-
-// The place of the first line feed.
-fn find_line_feed(bytes: &[u8]) -> Option<usize>
-    ensures { result ≡ position (λ byte. byte == 10) bytes.now }
-{
-    bytes.iter().position(|byte| *byte == b'\n')
-}
 
 // Moves bytes from those ahead to the line, up to a line feed or to one byte too many.
 fn take_piece(ahead: &mut Ahead, line: &mut LineBuffer) -> Piece
@@ -27,7 +21,7 @@ fn take_piece(ahead: &mut Ahead, line: &mut LineBuffer) -> Piece
     let room = LONGEST_LINE + 1 - line.as_slice().len();
     let count = ahead.as_slice().len().min(room);
     let bytes = &ahead.as_slice()[..count];
-    match find_line_feed(bytes) {
+    match find_byte(b'\n', bytes) {
         Some(place) => {
             line.append(&bytes[..place]);
             ahead.skip(place + 1);

@@ -1,6 +1,6 @@
 //! The fields of a line or of a part, taken one by one.
 
-ghost use Rattle.std.specs.Prelude.{◌≡◌, ◌==◌, ◌∷◌, position, [], option_map, MatchOption, length};
+ghost use Rattle.std.specs.Prelude.{◌≡◌, ◌∷◌, [], option_map, MatchOption, length};
 ghost use Rattle.text_fields.specs.Kind.{IsFirstFault, IsRowFault};
 ghost use Rattle.std.specs.Prelude.{◌≤◌};
 ghost use Rattle.text_fields.specs.Reading.{split, split_rest, IsReading, IsTaken};
@@ -8,7 +8,7 @@ ghost use Rattle.text_fields.specs.Reading.{split, split_rest, IsReading, IsTake
 use crate::field::Field;
 use crate::line_fault::LineFault;
 use crate::row::Row;
-use memchr::memchr;
+use blob_source::find_byte;
 use std::alloc::Global;
 use std::marker::Model;
 
@@ -33,19 +33,13 @@ impl<'a> Model for Fields<'a> {
     ghost invariant = { λ fields. fields.left ≡ length (split_rest fields.separator (option_map (λ text. text.now) fields.rest)) };
 }
 
-fn find_separator(separator: u8, text: &[u8]) -> Option<usize>
-    ensures { result ≡ position (λ byte. byte == separator) text.now }
-{
-    memchr(separator, text)
-}
-
 // Goes from separator to separator.
 fn count_fields(separator: u8, text: &[u8]) -> usize
     ensures { result ≡ length (split separator text.now) }
 {
     let mut count = 1;
     let mut rest = text;
-    while let Some(at) = find_separator(separator, rest) {
+    while let Some(at) = find_byte(separator, rest) {
         let (_, after) = rest.split_at(at + 1);
         rest = after;
         count += 1;
@@ -57,7 +51,7 @@ fn count_fields(separator: u8, text: &[u8]) -> usize
 fn cut(separator: u8, text: &[u8]) -> (&[u8], Option<&[u8]>)
     ensures { split separator text.now ≡ result.0.now ∷ split_rest separator (option_map (λ rest. rest.now) result.1) }
 {
-    let Some(at) = find_separator(separator, text) else {
+    let Some(at) = find_byte(separator, text) else {
         return (text, None);
     };
     let (field, _) = text.split_at(at);

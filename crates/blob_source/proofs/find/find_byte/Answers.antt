@@ -7,7 +7,7 @@ use Rattle.std.proofs.lemmas.Grind.{common_steps}
 use Rattle.std.proofs.lemmas.List.Quantifiers.{position-Some}
 use Rattle.std.proofs.lemmas.List.Sums.{fails_before_first}
 use Rattle.memchr.specs.Find.{IsFirstByte, is_byte}
-use Rattle.text_fields.proofs.fields.find_separator.Goals as goal
+use Rattle.blob_source.proofs.find.find_byte.Goals as goal
 
 -- where no byte is at a position, none passes
 none_passes : (p : ℕ → Bool) (text : List ℕ) (k : ℕ) → position p text ≡ None → k < length text → p (get_or text k 0) ≡ false
@@ -30,4 +30,6 @@ same_place s text (Some k) (Some i) where_is first =
     (cases_lt k i)
 
 pub returns : goal.returns
-returns c = same_place c.args.separator c.args.text.now c.memchr.result (position (λ byte. byte == c.args.separator) c.args.text.now) refl c.memchr.ensures
+returns c =
+    same_place c.args.byte c.args.bytes.now c.memchr.result (position (λ byte. byte == c.args.byte) c.args.bytes.now) refl
+    c.memchr.ensures
