@@ -1,6 +1,6 @@
 -- The parts agree after a change of who holds a blob.
 use Rattle.std.proofs.Common.{◌≡◌, ℕ, ◌+◌, ◌-◌, ◌<◌, ◌≤◌, ◌==◌, ◌&&◌, Bool, true, false, cond, List, Option, Some, None, refl, sym, ap, subst, ◌∙◌, arith}
-use Rattle.std.specs.Prelude.{length, slice_index, IfSome, IsSomeAnd}
+use Rattle.std.specs.Prelude.{length, slice_get, slice_index, IfSome, IsSomeAnd}
 use Rattle.std.specs.Option.{option_map, option_map_or}
 use Rattle.std.specs.List.{list_any, AllByRecursion}
 use Rattle.std.specs.Ordering.{nat_cmp}
@@ -27,7 +27,7 @@ use Rattle.blob_store.specs.Readers.{reader_at}
 use Rattle.blob_store.specs.Roots.{handles_of, roots_at, roots_in}
 use Rattle.blob_store.specs.Rows.{pins}
 use Rattle.blob_store.specs.Whole.{row_weights, IsInside, IsOpen, IsThere, Views, Whole}
-use Rattle.blob_store.proofs.Changed.{entry_changed, held_changed, views_changed}
+use Rattle.blob_store.proofs.Changed.{awaited_changed, entry_changed, held_changed, views_changed}
 use Rattle.blob_store.proofs.Rooting.{handles_moved}
 use Rattle.blob_store.proofs.Faults.{none_due}
 
@@ -106,6 +106,8 @@ module _ (change : Entry → Entry) (reroots : Reroots change) where
         job = whole.job;
         order = whole.order;
         rows = whole.rows;
+        awaited = whole.awaited;
+        unheld = whole.unheld;
         waits = whole.waits;
         weight = whole.weight;
         light = whole.light;
@@ -132,6 +134,8 @@ module _ (change : Entry → Entry) (reroots : Reroots change) where
         job = whole.job;
         order = whole.order;
         rows = whole.rows;
+        awaited = λ other. awaited_changed change parts.registry.entries number other (slice_get parts.rows other) (whole.awaited other);
+        unheld = whole.unheld;
         waits = whole.waits;
         weight = whole.weight;
         light = whole.light;

@@ -6,3 +6,8 @@ pub mod Faults
 pub mod Holding
 pub mod Spawning
 pub mod Sweeping
+pub mod Beginning
+pub mod Heard
+pub mod HeldBy
+pub mod Beside
+pub mod Freeing

@@ -1,5 +1,5 @@
 -- What becomes of the parts when an item goes. Own.
-use Rattle.std.specs.Prelude.{List, [], ◌∷◌, IsSome, ℕ, ◌≡◌, true}
+use Rattle.std.specs.Prelude.{List, [], ◌∷◌, IsSome, is_some, ℕ, ◌≡◌, ◌&&◌, true, if◌then◌else◌}
 use Rattle.std.specs.Option.{option_map}
 use Rattle.item_shares.specs.declared.item.Item.{Item}
 use Rattle.item_shares.specs.declared.item.Item.TheVariants.{Memory, Paged, Reserved, File, Range}
@@ -40,3 +40,8 @@ CanRelease table item = Unit {0}
 abbrev pub AreReleasable : Table → List Item → Type 0
 AreReleasable table [] = Unit {0}
 AreReleasable table (item ∷ items) = CanRelease table item × AreReleasable (released_by table item) items
+
+-- 1 for a range whose object isn't claimed or isn't there
+abbrev pub bad_weight : Table → Item → ℕ
+bad_weight table (Range slot off len) = if is_claimed_at table slot && is_some (object_at table slot) then 0 else 1
+bad_weight table item = 0

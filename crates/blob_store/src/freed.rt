@@ -4,7 +4,7 @@ ghost use Rattle.data_handles.specs.Boxes.{of_table};
 ghost use Rattle.page_disk.specs.declared.change.Change.{Change};
 ghost use Rattle.page_files.specs.Files.{Agrees};
 ghost use Rattle.blob_store.specs.Freed.{left_by, let_go_by, released_by, AreReleasable};
-ghost use Rattle.blob_store.specs.Weights.{memory_weight, piece_weight, reserved_weight};
+ghost use Rattle.store_laws.specs.Weights.{memory_weight, piece_weight, reserved_weight};
 
 use data_handles::{Boxed, DataHandle, HandleTable};
 use item_shares::Item;

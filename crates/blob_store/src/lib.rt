@@ -2,6 +2,11 @@
 #![tactic(auto)]
 
 pub mod freed;
+mod lines;
 pub mod parts;
 pub mod readers;
 pub mod row;
+mod settle;
+pub mod store;
+
+pub use store::BlobStore;

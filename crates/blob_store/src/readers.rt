@@ -1,7 +1,7 @@
 //! The open readers by their numbers.
 ghost use Rattle.std.specs.Prelude.{◌≡◌, [], None, length, OnErr, OnOk};
 ghost use Rattle.std.specs.Option.{option_copied};
-ghost use Rattle.blob_store.specs.Readers.{reader_at, Opens};
+ghost use Rattle.blob_store.specs.Readers.{reader_at, Closes, Opens};
 
 use blob_words::{BlobName, NoMemory, ReaderId, RendererId};
 use range_reader::Reader;
@@ -66,5 +66,14 @@ impl Readers {
         let _count = self.by_number.len(); // says that the numbers are apart
         self.by_number.insert(number.0, reader)?;
         Ok(())
+    }
+
+    /// Closes the reader of a number, where one is open.
+    pub fn close(&mut self, number: ReaderId) -> Option<OpenReader>
+        ensures taken { result ≡ reader_at number.0 self.old }
+        ensures closed { Closes number.0 self.old self.new }
+    {
+        let _count = self.by_number.len(); // says that the numbers are apart
+        self.by_number.remove(&number.0)
     }
 }

@@ -1,0 +1,5 @@
+//! One file a kind of line: what it answers of itself, and what it changes.
+
+mod drop;
+mod spawn;
+mod stat;
