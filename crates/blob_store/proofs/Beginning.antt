@@ -61,7 +61,9 @@ module _ (limits : Limits) (version : Version) (parts : Parts) where
     weighed = λ number. tt;
     living = λ number fresh. refl;
     roots = λ name. refl;
+    few = λ name. omega arith;
     readers = λ number. tt;
+    opened = omega arith;
   }
 
   module _ (new : IsNew limits version parts) where

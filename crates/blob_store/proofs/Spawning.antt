@@ -53,7 +53,9 @@ whole_spawned parts id origin renderers whole fresh is spawns = record {
   weighed = whole.weighed;
   living = living;
   roots = λ name. let same = handles name in omega (arith, whole.roots name, same);
+  few = whole.few;
   readers = whole.readers;
+  opened = whole.opened;
 }
   where
     handles : (name : ℕ) → handles_of name renderers ≡ handles_of name parts.renderers

@@ -1,7 +1,7 @@
 -- What the parts of a store keep among themselves, whatever the session was. Own.
 use Rattle.std.specs.Prelude.{ℕ, ◌≡◌, ◌≢◌, ◌+◌, ◌-◌, ◌^◌, ◌<◌, ◌≤◌, ◌==◌, ◌&&◌, false, true, List, [], map, length, slice_get, slice_index, sum, Option, None, Some, IfSome, IsSomeAnd}
 use Rattle.std.specs.List.{AllByRecursion, list_any}
-use Rattle.blob_words.specs.declared.bounds.TheConstants.{MOST_WEIGHT}
+use Rattle.blob_words.specs.declared.bounds.TheConstants.{MOST_READERS, MOST_WEIGHT}
 use Rattle.item_shares.specs.declared.item.Item.{Item}
 use Rattle.item_shares.specs.declared.item.Item.TheVariants.{Memory, Paged, Reserved, File, Range}
 use Rattle.item_shares.specs.declared.shares.Share.{Share}
@@ -139,7 +139,14 @@ pub record Whole (parts : Parts) : Type 0 where
   -- who lives and who holds what
   pub living : (number : ℕ) → was_spawned number parts.renderers ≡ false → origin_at number parts.renderers ≡ None
   pub roots : (name : ℕ) → roots_at parts.registry name ≡ roots_in parts.renderers parts.urls parts.readers name
+  -- a line gives a blob one root at most
+  pub few : (name : ℕ) → roots_at parts.registry name ≤ parts.lines
   pub readers : (number : ℕ) → IfSome (reader_at number parts.readers) (IsOpen parts.registry)
+  pub opened : length parts.readers ≤ MOST_READERS
+
+-- the parts once one more line is counted: a line that gives a root leaves the parts whole so
+abbrev pub with_line : Parts → Parts
+with_line parts = record parts { lines = parts.lines + 1 }
 
 -- the same as one word, so that the proofs of callers stay small
 unfoldable pub IsCharged : Parts → Type 0

@@ -26,3 +26,4 @@ pub mod AfterLines
 pub mod Beginning
 pub mod Telling
 pub mod UrlOwners
+pub mod Counting

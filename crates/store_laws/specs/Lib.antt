@@ -16,3 +16,4 @@ pub mod ReachLaws
 pub mod PageLaws
 pub mod AgreeLaws
 pub mod LineLaws
+pub mod CountLaws

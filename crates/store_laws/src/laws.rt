@@ -2,6 +2,7 @@ ghost use Rattle.store_laws.specs.AgreeLaws.{EntriesAgree, ReachesFollows};
 ghost use Rattle.store_laws.specs.PageLaws.{ArePagesInTurn, DiskIsCharged};
 ghost use Rattle.store_laws.specs.ReachLaws.{ChargesAreTold, HeldIsReached, SettledRests, SlotsAreReached};
 ghost use Rattle.store_laws.specs.CellLaws.{DenotedLaws};
+ghost use Rattle.store_laws.specs.CountLaws.{TellsHowMany};
 ghost use Rattle.store_laws.specs.GroupLaws.{GroupLegal, LateListsKeepLives, OwnLives};
 ghost use Rattle.store_laws.specs.LineLaws.{LinesStand, NewStands, NoneIsMarked};
 
@@ -86,4 +87,9 @@ pub fn lines_stand()
 /// A store that has heard nothing stands for what comes after the line of the limits.
 pub fn new_stands()
     ensures { NewStands }
+{}
+
+/// What `tally` answers is how much there is of what the parts have, and it changes nothing.
+pub fn tells_how_many()
+    ensures { TellsHowMany }
 {}
