@@ -1,9 +1,11 @@
 -- A line was heard: refused ones, `spawn`, `drop` and `stat`.
-use Rattle.std.proofs.Common.{◌≡◌, ℕ, zero, suc, ◌-◌, Bool, false, List, [], ◌∷◌, Option, Some, None, set, refl, sym, ap, subst, ◌∙◌, inl}
+use Rattle.std.proofs.Common.{◌≡◌, ℕ, zero, suc, ◌-◌, Bool, false, List, [], ◌∷◌, length, Option, Some, None, set, refl, sym, ap, subst, ◌∙◌, inl}
 use Rattle.std.specs.Option.{option_map, option_map_or}
+use Rattle.std.proofs.lemmas.List.{length-map}
 use Rattle.blob_words.specs.declared.number.RendererId.{RendererId}
 use Rattle.session_script.specs.declared.event.Event.{Event}
 use Rattle.session_script.specs.declared.event.Event.TheVariants as events
+use Rattle.answer_text.specs.declared.answer.Answer.{Answer}
 use Rattle.answer_text.specs.declared.answer.Answer.TheVariants as answers
 use Rattle.answer_text.specs.declared.group.Group.{Group}
 use Rattle.answer_text.specs.declared.refusal.Refusal.{Refusal}
@@ -12,6 +14,7 @@ use Rattle.page_disk.specs.declared.change.Change.{Change}
 use Rattle.blob_entries.specs.Book.{Book, changed, changed_at, entry_at, entry_of}
 use Rattle.blob_entries.specs.Changes.{held_less}
 use Rattle.blob_entries.specs.Names.{number_of}
+use Rattle.blob_entries.specs.Standing.{standing}
 use Rattle.blob_entries.specs.declared.entry.Entry.{Entry}
 use Rattle.renderer_table.specs.Counted.{ChangesCount, Spawns}
 use Rattle.renderer_table.specs.Table.{Table, drop_fault, spawn_fault}
@@ -21,10 +24,12 @@ use Rattle.blob_model.specs.Live.{is_live}
 use Rattle.blob_model.specs.Refusals.{refusal}
 use Rattle.blob_model.specs.Session.{Session}
 use Rattle.blob_model.proofs.legal.Steps.{caused_from, unspawned_alive}
+use Rattle.store_laws.specs.CountLaws.{how_many}
 use Rattle.store_laws.specs.LineLaws.{counted, handle_refusal, AreUnmarked}
 use Rattle.store_laws.specs.Rows.{Row as RowSaid}
 use Rattle.store_laws.specs.Stands.{Between, Parts as PartsSaid, Stands}
 use Rattle.store_laws.proofs.AfterLines.{lines_stand}
+use Rattle.store_laws.proofs.Counting.{tells_how_many}
 use Rattle.store_laws.proofs.LineRefusals.{drop_none, drop_refusal, own_accepted, own_refused, spawn_accepted, stat_refusal}
 use Rattle.store_laws.proofs.Telling.{stat_accepted}
 use Rattle.store_laws.proofs.UrlOwners.{owners_spawned}
@@ -32,7 +37,7 @@ use Rattle.store_laws.proofs.Unmarked.{none_marked}
 use Rattle.blob_store.specs.declared.parts.Parts.{Parts}
 use Rattle.blob_store.specs.declared.row.Row.{Row}
 use Rattle.blob_store.specs.Says.{scene, IsHeard}
-use Rattle.blob_store.specs.Seen.{parts_of, row_of, rows_beside}
+use Rattle.blob_store.specs.Seen.{parts_of, reader_of, row_of, rows_beside}
 use Rattle.blob_store.proofs.Faults.{none_used}
 
 -- a change of what stands leaves the rows beside it
@@ -96,6 +101,22 @@ module _ (s : Session) (groups : List Group) (parts : Parts) (told : Option (Lis
         (sym (rows_still parts.registry name parts.rows))
         (lines_stand.dropping s h (is_live s.limits.page h) (parts_of parts) told table unmarked stands.between renderer name renderers changes));
   }
+
+  pub heard_count : IsHeard s h events.Count (how_many (parts_of parts) ∷ []) (scene parts told table)
+  heard_count = record {
+    is_own = tells_how_many.is_own s groups (parts_of parts) told table legal stands;
+    stands = tells_how_many.stands s groups (parts_of parts) told table legal stands;
+  }
+
+  -- what `tally` answers, number by number
+  pub heard_counts : (blobs urls open_ones waiting : ℕ) (paging : Bool) → blobs ≡ length (standing parts.registry.names parts.registry.entries)
+      → urls ≡ length parts.urls → open_ones ≡ length parts.readers → waiting ≡ length parts.quota.waiting → paging ≡ parts.pages.paging
+      → IsHeard s h events.Count (answers.Held blobs urls open_ones waiting paging ∷ []) (scene parts told table)
+  heard_counts blobs urls open_ones waiting paging is_blobs is_urls is_open is_waiting is_paging =
+      let many = is_open ∙ sym (length-map parts.readers reader_of) in
+      subst (λ (answer : Answer). IsHeard s h events.Count (answer ∷ []) (scene parts told table))
+      (sym (λ i. answers.Held (is_blobs i) (is_urls i) (many i) (is_waiting i) (is_paging i))) heard_count
+
   pub heard_stat : (renderer : RendererId) (name : ℕ) (entry : Entry) → handle_refusal renderer name parts.renderers ≡ None
       → entry_of parts.registry name ≡ Some entry
       → IsHeard s h (events.Stat renderer name) (answers.Told name entry.size entry.kind entry.status ∷ []) (scene parts told table)

@@ -9,5 +9,6 @@ pub mod Sweeping
 pub mod Beginning
 pub mod Heard
 pub mod HeldBy
+pub mod Few
 pub mod Beside
 pub mod Freeing

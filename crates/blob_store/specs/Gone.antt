@@ -3,7 +3,7 @@ use Rattle.std.specs.Prelude.{◌≡◌, ◌+◌, ◌-◌, List, fold, sum_by}
 use Rattle.item_shares.specs.declared.item.Item.{Item}
 use Rattle.store_laws.specs.Weights.{memory_weight, piece_weight}
 use Rattle.blob_store.specs.declared.parts.Parts.{Parts}
-use Rattle.blob_store.specs.Freed.{left_by, let_go_by}
+use Rattle.store_laws.specs.LetGo.{left_by, let_go_by}
 
 -- the bytes of these items are charged no more, and their pieces are in no page file, no job and no order of use; but for the registry and the
 -- items nothing else changes

@@ -27,3 +27,8 @@ pub mod Beginning
 pub mod Telling
 pub mod UrlOwners
 pub mod Counting
+pub mod Leaving
+pub mod Letting
+pub mod OrderLeft
+pub mod Queueing
+pub mod SweptStand

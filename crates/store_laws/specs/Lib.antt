@@ -17,3 +17,6 @@ pub mod PageLaws
 pub mod AgreeLaws
 pub mod LineLaws
 pub mod CountLaws
+pub mod SweepLaws
+pub mod LetGo
+pub mod Swept

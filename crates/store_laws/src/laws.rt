@@ -4,7 +4,10 @@ ghost use Rattle.store_laws.specs.ReachLaws.{ChargesAreTold, HeldIsReached, Sett
 ghost use Rattle.store_laws.specs.CellLaws.{DenotedLaws};
 ghost use Rattle.store_laws.specs.CountLaws.{TellsHowMany};
 ghost use Rattle.store_laws.specs.GroupLaws.{GroupLegal, LateListsKeepLives, OwnLives};
+ghost use Rattle.store_laws.specs.LetGo.{ItemsLetGo, OrderLetGo, PagesLetGo, QueueLetGo};
 ghost use Rattle.store_laws.specs.LineLaws.{LinesStand, NewStands, NoneIsMarked};
+ghost use Rattle.store_laws.specs.SweepLaws.{SweepLeavesLive};
+ghost use Rattle.store_laws.specs.Swept.{SweptStands};
 
 /// A line's own answers and the seven lists of settling, each after the one before, make a legal
 /// group.
@@ -92,4 +95,37 @@ pub fn new_stands()
 /// What `tally` answers is how much there is of what the parts have, and it changes nothing.
 pub fn tells_how_many()
     ensures { TellsHowMany }
+{}
+
+/// A sweep leaves the entries of the live blobs, and behind the drops what is left stands for them.
+pub fn sweep_leaves_live()
+    ensures { SweepLeavesLive }
+{}
+
+/// Page files and the job in flight stand for the items that are left, once each item that goes is
+/// let go there.
+pub fn pages_let_go()
+    ensures { PagesLetGo }
+{}
+
+/// The order of use, without the pieces of the items that go, is that of the pieces that are left.
+pub fn order_let_go()
+    ensures { OrderLetGo }
+{}
+
+/// When views go and no item stands without one, items went, and those with a view left, or with a
+/// piece on its way, are where they were.
+pub fn items_let_go()
+    ensures { ItemsLetGo }
+{}
+
+/// The queue, without the blobs that are dropped, is that of those that wait still.
+pub fn queue_let_go()
+    ensures { QueueLetGo }
+{}
+
+/// What a sweep leaves of entries, rows, items, queue, page files and order of use stands behind the
+/// drops, for the live blobs.
+pub fn swept_stands()
+    ensures { SweptStands }
 {}

@@ -2,6 +2,7 @@
 ghost use Rattle.std.specs.Prelude.{◌≡◌, ◌++◌, List, map, IfOk, OnOk};
 ghost use Rattle.answer_text.specs.declared.answer.Answer.TheVariants.{Dropped};
 ghost use Rattle.blob_registry.specs.Sweeps.{Sweeping};
+ghost use Rattle.item_shares.specs.Shares.{AreViewed};
 ghost use Rattle.page_disk.specs.declared.change.Change.{Change};
 ghost use Rattle.page_files.specs.Files.{Agrees};
 
@@ -35,6 +36,7 @@ impl Parts {
             swept.dropped self.old.shares self.new.shares swept.freed) }
         ensures gone { IfOk result (λ swept. AreGone swept.freed self.old self.new) }
         ensures charged { OnOk result (IsCharged self.new) }
+        ensures viewed { OnOk result (AreViewed self.new.shares) }
         ensures agrees { (changes : List Change) → Agrees self.old.pages.pages changes
             → Agrees self.new.pages.pages changes }
     {
@@ -48,6 +50,7 @@ impl Parts {
             &mut self.held,
             swept.freed.as_slice(),
         );
+        let _end = self.shares.end(); // says that no item stands without a view
         Ok(swept)
     }
 }
