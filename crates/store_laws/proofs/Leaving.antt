@@ -152,7 +152,8 @@ module _ (all : List Piece) (shares later : List (Option Share)) where
   module _ (list : List Build) (own : ℕ → List ℕ) (build : Build) (entry : Entry) (same : AllByRecursion IsSame (held_views entry)) where
     fixed_same : AllByRecursion IsSame (fixed_views entry.recipe)
     fixed_same =
-        append_first IsSame (fixed_views entry.recipe) (own_views entry.own) (append_first IsSame (fixed_views entry.recipe ++ own_views entry.own) entry.views same)
+        append_first IsSame (fixed_views entry.recipe) (own_views entry.own)
+        (append_first IsSame (fixed_views entry.recipe ++ own_views entry.own) entry.views same)
 
     own_same : AllByRecursion IsSame (own_views entry.own)
     own_same =
@@ -298,7 +299,8 @@ module _ (s : Session) (h : History) (stands : ℕ → Bool) (book : Book) (tell
       go true = λ pending. mark entry.mark (is pending)
       go false = λ pending. mark entry.mark (is pending)
 
-  marks_left : (list : List Build) (entries : Entries) → Beside (IsMarkedRight s h) list entries → Beside (IsMarkedRight s g) list (entries_left alive list entries)
+  marks_left : (list : List Build) (entries : Entries) → Beside (IsMarkedRight s h) list entries
+      → Beside (IsMarkedRight s g) list (entries_left alive list entries)
   marks_left [] [] is = tt
   marks_left [] (held ∷ entries) is = absurd is
   marks_left (build ∷ list) [] is = absurd is
@@ -385,7 +387,8 @@ module _ (s : Session) (h : History) (stands : ℕ → Bool) (book : Book) (tell
       none : (b : Bool) → ((slot : ℕ) → 0 < pins slot (cond b None None ∷ rows_left alive list rows) → item_at later slot ≡ item_at shares slot)
           → (((slot : ℕ) → 0 < pins slot (rows_left alive list rows) → item_at later slot ≡ item_at shares slot)
           → RowsBeside (λ (build : Build) (row : Row). AreWritten later (own build.name) row.coming) list (rows_left alive list rows))
-          → RowsBeside (λ (build : Build) (row : Row). AreWritten later (own build.name) row.coming) (build ∷ list) (cond b None None ∷ rows_left alive list rows)
+          → RowsBeside (λ (build : Build) (row : Row). AreWritten later (own build.name) row.coming) (build ∷ list)
+          (cond b None None ∷ rows_left alive list rows)
       none true same rest = rest same
       none false same rest = rest same
   written_left own shares later (build ∷ list) (Some row ∷ rows) same is =

@@ -571,7 +571,8 @@ module _ (all : List Piece) (facts : PageFacts) (limit : ℕ) (shares later : Li
   page_there number (Whole size pieces) None e = absurd (cc e)
   page_there number (Whole size pieces) (Some list) e = go (list_any (λ (each : ℕ). each == number) facts.asked) e
     where
-      go : (b : Bool) → whole size (map bare_piece pieces) ≡ cond b gone (whole (sum_by (length_in all) list) (placed_from all (holds_paged later number) 0 list))
+      go : (b : Bool)
+          → whole size (map bare_piece pieces) ≡ cond b gone (whole (sum_by (length_in all) list) (placed_from all (holds_paged later number) 0 list))
           → AllByRecursion (λ (held : Held). holds_piece later held.piece.0 ≡ true) pieces
       go true e = absurd (cc e)
       go false e =

@@ -77,25 +77,31 @@ module _ (test : ℕ → Bool) where
   length_left (piece ∷ list) n = go (test piece.number) refl (piece.number == n) refl (length_left list n)
     where
       go : (b : Bool) → test piece.number ≡ b → (c : Bool) → (piece.number == n) ≡ c
-          → option_map sized (find (λ (one : Piece). one.number == n) (passing list)) ≡ cond (test n) (option_map sized (find (λ (one : Piece). one.number == n) list)) None
+          → option_map sized (find (λ (one : Piece). one.number == n) (passing list))
+          ≡ cond (test n) (option_map sized (find (λ (one : Piece). one.number == n) list)) None
           → option_map sized (find (λ (one : Piece). one.number == n) (cond b (piece ∷ passing list) (passing list)))
           ≡ cond (test n) (option_map sized (cond {A = Option Piece} (piece.number == n) (Some piece) (find (λ (one : Piece). one.number == n) list))) None
       go true at true is rest =
           let passes : test n ≡ true = subst (λ (m : ℕ). test m ≡ true) (eqb-true piece.number n is) at in
           ap (λ (c : Bool). option_map sized (cond {A = Option Piece} c (Some piece) (find (λ (one : Piece). one.number == n) (passing list)))) is
           ∙ sym (ap (λ (b : Bool). cond {A = Option (ℕ × ℕ)} b (Some (sized piece)) None) passes)
-          ∙ sym (ap (λ (c : Bool). cond (test n) (option_map sized (cond {A = Option Piece} c (Some piece) (find (λ (one : Piece). one.number == n) list))) None) is)
+          ∙ sym (ap (λ (c : Bool).
+          cond (test n) (option_map sized (cond {A = Option Piece} c (Some piece) (find (λ (one : Piece). one.number == n) list))) None) is)
       go true at false is rest =
           ap (λ (c : Bool). option_map sized (cond {A = Option Piece} c (Some piece) (find (λ (one : Piece). one.number == n) (passing list)))) is
           ∙ rest
-          ∙ sym (ap (λ (c : Bool). cond (test n) (option_map sized (cond {A = Option Piece} c (Some piece) (find (λ (one : Piece). one.number == n) list))) None) is)
+          ∙ sym (ap (λ (c : Bool).
+          cond (test n) (option_map sized (cond {A = Option Piece} c (Some piece) (find (λ (one : Piece). one.number == n) list))) None) is)
       go false at true is rest =
           let fails : test n ≡ false = subst (λ (m : ℕ). test m ≡ false) (eqb-true piece.number n is) at in
           rest
           ∙ ap (λ (b : Bool). cond b (option_map sized (find (λ (one : Piece). one.number == n) list)) None) fails
-          ∙ sym (ap (λ (b : Bool). cond b (option_map sized (cond {A = Option Piece} (piece.number == n) (Some piece) (find (λ (one : Piece). one.number == n) list))) None) fails)
+          ∙ sym (ap (λ (b : Bool).
+          cond b (option_map sized (cond {A = Option Piece} (piece.number == n) (Some piece) (find (λ (one : Piece). one.number == n) list))) None) fails)
       go false at false is rest =
-          rest ∙ sym (ap (λ (c : Bool). cond (test n) (option_map sized (cond {A = Option Piece} c (Some piece) (find (λ (one : Piece). one.number == n) list))) None) is)
+          rest
+          ∙ sym (ap (λ (c : Bool).
+          cond (test n) (option_map sized (cond {A = Option Piece} c (Some piece) (find (λ (one : Piece). one.number == n) list))) None) is)
 
   number_kept : (list : List Piece) (n : ℕ) (entry : ℕ × ℕ) → with_length list n ≡ Some entry → entry.0 ≡ n
   number_kept [] n entry e = absurd (cc e)

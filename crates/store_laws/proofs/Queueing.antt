@@ -153,14 +153,18 @@ among test (build ∷ list) name = go (test build.name) refl (build.name == name
     with_false true b e = absurd (false_true (sym e))
     with_false false b e = refl
 
-    go : (b : Bool) → test build.name ≡ b → (c : Bool) → (build.name == name) ≡ c → list_any (λ (one : ℕ). one == name) (map (λ (one : Build). one.name) (filter (λ (one : Build). test one.name) list)) ≡ (test name && named name list)
+    go : (b : Bool) → test build.name ≡ b → (c : Bool) → (build.name == name) ≡ c
+        → list_any (λ (one : ℕ). one == name) (map (λ (one : Build). one.name) (filter (λ (one : Build). test one.name) list))
+        ≡ (test name && named name list)
         → list_any (λ (one : ℕ). one == name)
         (map (λ (one : Build). one.name) (cond b (build ∷ filter (λ (one : Build). test one.name) list) (filter (λ (one : Build). test one.name) list)))
         ≡ (test name && (c || named name list))
     go true at true is rest =
         ap (λ (c : Bool). c || list_any (λ (one : ℕ). one == name) (map (λ (one : Build). one.name) (filter (λ (one : Build). test one.name) list))) is
         ∙ with_true (test name) (named name list) (subst (λ (n : ℕ). test n ≡ true) (eqb-true build.name name is) at)
-    go true at false is rest = ap (λ (c : Bool). c || list_any (λ (one : ℕ). one == name) (map (λ (one : Build). one.name) (filter (λ (one : Build). test one.name) list))) is ∙ rest
+    go true at false is rest =
+        ap (λ (c : Bool). c || list_any (λ (one : ℕ). one == name) (map (λ (one : Build). one.name) (filter (λ (one : Build). test one.name) list))) is
+        ∙ rest
     go false at true is rest =
         rest ∙ with_false (test name) (named name list) (subst (λ (n : ℕ). test n ≡ false) (eqb-true build.name name is) at)
     go false at false is rest = rest

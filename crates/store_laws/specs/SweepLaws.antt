@@ -60,7 +60,8 @@ pub record SweepLeavesLive : Type 0 where
   pub left_stand : (s : Session) (h : History) (stands : ℕ → Bool) (book : Book) (shares : List (Option Share)) (rows : List (Option Row)) (quota : Queue)
       (files : Files) (order : List (ℕ × ℕ)) → ContentsStand s h stands book shares rows quota files order → Describes s h book
       → ((name : ℕ) → is_live s.limits.page h name ≡ true → stands name ≡ true) → (later : List (Option Share))
-      → AreKept (entries_left (is_live s.limits.page h) (builds s.limits.page h) book.entries) (rows_left (is_live s.limits.page h) (builds s.limits.page h) rows)
+      → AreKept (entries_left (is_live s.limits.page h) (builds s.limits.page h) book.entries)
+      (rows_left (is_live s.limits.page h) (builds s.limits.page h) rows)
       shares later
       → EntriesAre s (after_drops s h) (is_live s.limits.page h)
       (book_of book.names (entries_left (is_live s.limits.page h) (builds s.limits.page h) book.entries)) later
