@@ -1,5 +1,5 @@
 -- Parts that have heard nothing agree with one another, and are those of the laws.
-use Rattle.std.proofs.Common.{◌≡◌, ℕ, ◌≤◌, List, [], refl, ap, subst, sym, arith}
+use Rattle.std.proofs.Common.{◌≡◌, [], refl, ap, subst, sym, arith}
 use Rattle.blob_words.specs.declared.limits.Limits.{Limits}
 use Rattle.blob_words.specs.declared.version.Version.{Version}
 use Rattle.blob_entries.specs.Book.{book_of}

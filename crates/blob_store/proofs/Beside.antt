@@ -1,6 +1,6 @@
 -- The rows of blobs that stand tell all that comes: as many pins, and as many gathered bytes, as all rows.
 use Rattle.std.proofs.Common.{◌≡◌, ℕ, suc, ◌+◌, ◌==◌, List, [], ◌∷◌, ◌++◌, Option, Some, None, length, refl, sym, ap, ◌∙◌, arith}
-use Rattle.std.specs.Prelude.{count_by, flat_map, slice_get, sum_by, IfSome}
+use Rattle.std.specs.Prelude.{count_by, flat_map, slice_get, IfSome}
 use Rattle.std.specs.Option.{option_map, option_map_or}
 use Rattle.std.proofs.lemmas.List.Sums.{sum_by-cons}
 use Rattle.item_shares.specs.declared.shares.Share.{Share}

@@ -1,6 +1,6 @@
 -- What a sweep frees can be released, one after the other: no two items are of one object, and each object is claimed and there.
 use Rattle.std.proofs.Common.{◌≡◌, ℕ, zero, suc, ◌+◌, ◌≤◌, ◌==◌, ◌&&◌, Bool, true, false, cond, List, [], ◌∷◌, Option, Some, None, refl, ap, sym, ◌∙◌, arith}
-use Rattle.std.specs.Prelude.{is_some, option_and_then, slice_get, slice_set, sum_by, IfSome, IsSome}
+use Rattle.std.specs.Prelude.{is_some, option_and_then, slice_get, slice_set, sum_by, IfSome}
 use Rattle.std.specs.Option.{option_map, option_map_or}
 use Rattle.std.proofs.lemmas.Bool.{eq-eqb, eqb-true}
 use Rattle.std.proofs.lemmas.List.Sums.{sum_by-cons}

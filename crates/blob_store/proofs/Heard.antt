@@ -27,7 +27,7 @@ use Rattle.blob_model.proofs.legal.Steps.{caused_from, unspawned_alive}
 use Rattle.store_laws.specs.CountLaws.{how_many}
 use Rattle.store_laws.specs.LineLaws.{counted, handle_refusal, AreUnmarked}
 use Rattle.store_laws.specs.Rows.{Row as RowSaid}
-use Rattle.store_laws.specs.Stands.{Between, Parts as PartsSaid, Stands}
+use Rattle.store_laws.specs.Stands.{Between, Stands}
 use Rattle.store_laws.proofs.AfterLines.{lines_stand}
 use Rattle.store_laws.proofs.Counting.{tells_how_many}
 use Rattle.store_laws.proofs.LineRefusals.{drop_none, drop_refusal, own_accepted, own_refused, spawn_accepted, stat_refusal}

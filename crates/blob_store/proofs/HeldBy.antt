@@ -1,8 +1,7 @@
 -- What stands under the name of a blob on which a renderer has a handle.
-use Rattle.std.proofs.Common.{◌≡◌, ℕ, zero, suc, ◌<◌, ◌==◌, List, Option, Some, None, refl, ap, subst, arith}
-use Rattle.std.specs.Prelude.{is_none, is_some, option_and_then, if◌then◌else◌, IsSome, IsSomeAnd}
+use Rattle.std.proofs.Common.{◌≡◌, ℕ, zero, suc, ◌<◌, ◌==◌, Option, Some, None, refl, subst, arith}
+use Rattle.std.specs.Prelude.{is_none, option_and_then, if◌then◌else◌, IsSome, IsSomeAnd}
 use Rattle.blob_words.specs.declared.number.RendererId.{RendererId}
-use Rattle.answer_text.specs.declared.refusal.Refusal.{Refusal}
 use Rattle.answer_text.specs.declared.refusal.Refusal.TheVariants as refusals
 use Rattle.blob_entries.specs.Book.{Book, entry_at, entry_of}
 use Rattle.blob_entries.specs.Names.{number_of}

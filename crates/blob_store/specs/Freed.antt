@@ -1,7 +1,7 @@
 -- What becomes of data handles when items go. Own.
 use Rattle.std.specs.Prelude.{List, [], ◌∷◌, IsSome, is_some, ℕ, ◌≡◌, ◌&&◌, true, if◌then◌else◌}
 use Rattle.item_shares.specs.declared.item.Item.{Item}
-use Rattle.item_shares.specs.declared.item.Item.TheVariants.{Memory, Paged, Reserved, File, Range}
+use Rattle.item_shares.specs.declared.item.Item.TheVariants.{Range}
 use Rattle.data_handles.specs.Table.{Table, is_claimed_at, object_at, released_at as emptied_at}
 
 -- data handles without the object of an item

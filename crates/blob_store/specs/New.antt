@@ -1,5 +1,5 @@
 -- Parts that have heard nothing. Own.
-use Rattle.std.specs.Prelude.{ℕ, ◌≡◌, false, []}
+use Rattle.std.specs.Prelude.{◌≡◌, false, []}
 use Rattle.blob_words.specs.declared.limits.Limits.{Limits}
 use Rattle.blob_words.specs.declared.version.Version.{Version}
 use Rattle.blob_entries.specs.Book.{book_of}

@@ -1,5 +1,5 @@
 -- What the parts of a store keep among themselves, whatever the session was. Own.
-use Rattle.std.specs.Prelude.{ℕ, ◌≡◌, ◌≢◌, ◌+◌, ◌-◌, ◌^◌, ◌<◌, ◌≤◌, ◌==◌, ◌&&◌, false, true, List, [], map, length, slice_get, slice_index, sum, Option, None, Some, IfSome, IsSomeAnd}
+use Rattle.std.specs.Prelude.{ℕ, ◌≡◌, ◌+◌, ◌-◌, ◌^◌, ◌<◌, ◌≤◌, ◌==◌, ◌&&◌, false, true, List, map, length, slice_get, slice_index, sum, Option, None, Some, IfSome, IsSomeAnd}
 use Rattle.std.specs.List.{AllByRecursion, list_any}
 use Rattle.blob_words.specs.declared.bounds.TheConstants.{MOST_READERS, MOST_WEIGHT}
 use Rattle.item_shares.specs.declared.item.Item.{Item}
