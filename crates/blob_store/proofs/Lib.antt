@@ -1,4 +1,5 @@
 pub mod Releasing
+pub mod OwnedReaders
 pub mod Opening
 pub mod Rooting
 pub mod Changed
