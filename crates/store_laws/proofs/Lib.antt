@@ -40,3 +40,8 @@ pub mod Dying
 pub mod TableLines
 pub mod ApartHistories
 pub mod TableRefusals
+pub mod Growing
+pub mod Building
+pub mod Parting
+pub mod Unended
+pub mod Entering

@@ -23,3 +23,6 @@ pub mod Swept
 pub mod Roots
 pub mod Apart
 pub mod TableLaws
+pub mod BuildLaws
+pub mod PartLaws
+pub mod EntryLaws

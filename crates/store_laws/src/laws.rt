@@ -1,8 +1,11 @@
 ghost use Rattle.store_laws.specs.AgreeLaws.{EntriesAgree, ReachesFollows};
+ghost use Rattle.store_laws.specs.BuildLaws.{BuildsAdd, ContentsGrow, GrownStands, ListedAreThere};
 ghost use Rattle.store_laws.specs.PageLaws.{ArePagesInTurn, DiskIsCharged};
+ghost use Rattle.store_laws.specs.PartLaws.{RecipesStand};
 ghost use Rattle.store_laws.specs.ReachLaws.{ChargesAreTold, HeldIsReached, SettledRests, SlotsAreReached};
 ghost use Rattle.store_laws.specs.CellLaws.{DenotedLaws};
 ghost use Rattle.store_laws.specs.CountLaws.{TellsHowMany};
+ghost use Rattle.store_laws.specs.EntryLaws.{NewEntries, UnbuiltUnended};
 ghost use Rattle.store_laws.specs.GroupLaws.{GroupLegal, LateListsKeepLives, OwnLives};
 ghost use Rattle.store_laws.specs.LetGo.{ItemsLetGo, OrderLetGo, PagesLetGo, QueueLetGo};
 ghost use Rattle.store_laws.specs.LineLaws.{LinesStand, NewStands, NoneIsMarked};
@@ -128,4 +131,43 @@ pub fn queue_let_go()
 /// drops, for the live blobs.
 pub fn swept_stands()
     ensures { SweptStands }
+{}
+
+/// Entries, items and charges stand for the history with a new blob, where its entry, its row and
+/// its items come.
+pub fn contents_grow()
+    ensures { ContentsGrow }
+{}
+
+/// In a legal transcript whatever page files list and the job in flight names is a piece of a blob.
+pub fn listed_are_there()
+    ensures { ListedAreThere }
+{}
+
+/// In a legal transcript an accepted line that builds adds its blob, and changes nothing else of what
+/// the contents stand for.
+pub fn builds_add()
+    ensures { BuildsAdd }
+{}
+
+/// The parts stand for the history with a new blob, where the tables beside them do.
+pub fn grown_stands()
+    ensures { GrownStands }
+{}
+
+/// A recipe of parts stands for their cells, where its pieces are found and its slots hold the
+/// ranges.
+pub fn recipes_stand()
+    ensures { RecipesStand }
+{}
+
+/// In a legal transcript a blob that was not built has not ended.
+pub fn unbuilt_unended()
+    ensures { UnbuiltUnended }
+{}
+
+/// The entry and the row of a blob that broke at its line, and of one with all its own bytes at hand,
+/// stand for it.
+pub fn new_entries()
+    ensures { NewEntries }
 {}
