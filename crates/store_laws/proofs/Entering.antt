@@ -35,7 +35,9 @@ use Rattle.blob_model.specs.Own.{pending_status}
 use Rattle.blob_model.specs.Parts.{own_lengths, parts_length, sources}
 use Rattle.blob_model.specs.Pieces.{Piece, numbered, pieces, pieces_from, spans_of}
 use Rattle.blob_model.specs.Session.{Session}
-use Rattle.blob_model.specs.Standing.{ended, was_granted}
+use Rattle.blob_model.specs.Standing.{ended, grants_at_once, was_granted}
+use Rattle.blob_model.specs.Transport.{arrivals, has_all, has_come, missing, spans}
+use Rattle.blob_model.specs.Waits.{is_shared}
 use Rattle.slice_rule.specs.Kind.{kept_type}
 use Rattle.blob_model.proofs.Lists.{all_append, append_second, false_true, for_each, not_same}
 use Rattle.blob_model.proofs.builds.PieceNumbers.{all_by_number, pieces_numbered}
@@ -44,12 +46,12 @@ use Rattle.blob_model.proofs.legal.Steps.{caused_from}
 use Rattle.registry_laws.specs.Agree.{source_names, step_name}
 use Rattle.store_laws.specs.BuildLaws.{Adds, IsEntered}
 use Rattle.store_laws.specs.Cells.{cell_at, denoted, item_cell, piece_cell, piece_in}
-use Rattle.store_laws.specs.EntryLaws.{AreBrought, IsReady, NewEntries, UnbuiltUnended, all_lengths, broken_entry, ready_entry, settled_row}
+use Rattle.store_laws.specs.EntryLaws.{AreBrought, IsReady, NewEntries, UnbuiltUnended, all_lengths, broken_entry, coming_row, pending_entry, ready_entry, settled_row}
 use Rattle.store_laws.specs.Items.{IsInside, IsLongAs, item_length, piece_at, piece_by, piece_of_item}
 use Rattle.store_laws.specs.Outlines.{outline, outline_of, status_now}
 use Rattle.store_laws.specs.PartLaws.{AreFound, AreRanges, own_steps, piece_lengths, piece_no, recipe_of, IsAll}
 use Rattle.store_laws.specs.Recipes.{IsStep, StandsFor, own_cells, own_number, own_numbers, own_step_cells, recipe_cells, step_cells}
-use Rattle.store_laws.specs.Rows.{coming_of, pieces_before, row_of, settled}
+use Rattle.store_laws.specs.Rows.{coming_by, coming_of, gathered_of, gathering, pieces_before, row_of, settled, waiting, writing}
 use Rattle.store_laws.specs.Uses.{own_pieces}
 use Rattle.store_laws.proofs.Denoted.{denoted-append, denoted-view}
 use Rattle.store_laws.proofs.Growing.{cells_found}
@@ -363,10 +365,8 @@ module _ (s : Session) (h later : History) (owner : RendererId) (name : ℕ) (ki
   ready_coming plans.Inline ready ends = sym (ap (λ (o : Option Status). cond (is_none o) settled settled) ends)
   ready_coming plan ready ends = absurd ready
 
-  module _ (plan : Plan) (now : List (Option Share)) (views own : List View) (sized : 0 < s.limits.page) (adds : Adds s h later (as_built plan))
-      (ends : ended later name ≡ None) (ready : IsReady plan)
-      (known : AllByRecursion (λ (source : ℕ). named source (builds s.limits.page h) ≡ true) (sources parts)) (ranges : AreRanges now views parts)
-      (brought : AreBrought now (length (pieces s.limits.page h)) (all_lengths s.limits.page parts) own) where
+  module _ (plan : Plan) (now : List (Option Share)) (views : List View) (sized : 0 < s.limits.page) (adds : Adds s h later (as_built plan))
+      (known : AllByRecursion (λ (source : ℕ). named source (builds s.limits.page h) ≡ true) (sources parts)) (ranges : AreRanges now views parts) where
     abbrev first : ℕ
     first = length (pieces s.limits.page h)
 
@@ -414,16 +414,22 @@ module _ (s : Session) (h later : History) (owner : RendererId) (name : ℕ) (ki
         (λ piece member. not_same piece.blob name (λ same. false_true (sym adds.fresh ∙ subst (λ (n : ℕ). named n (builds s.limits.page h) ≡ true) same member)))
         (pieces_named s.limits.page 0 (builds s.limits.page h))) (numbered name first own_spans)))
 
-    ready_entered : IsEntered s later (as_built plan) now (ready_entry owner kind parts s.limits.page first views own)
+    recipe_is : recipe_cells (builds s.limits.page later) now_all now recipe ≡ (as_built plan).cells
+    recipe_is =
+        cells_by recipe (subst (λ (list : List ℕ). AllByRecursion (λ (source : ℕ). named source (builds s.limits.page h) ≡ true) list)
+        (sym (sources_made s.limits.page first views parts)) known)
+        ∙ recipes_stand (builds s.limits.page h) now_all now s.limits.page name first 0 views parts sized found_own ranges
+
+    ready_entered : (own : List View) → ended later name ≡ None → IsReady plan
+        → AreBrought now (length (pieces s.limits.page h)) (all_lengths s.limits.page parts) own
+        → IsEntered s later (as_built plan) now (ready_entry owner kind parts s.limits.page first views own)
         (settled_row (Some plan) (as_built plan).weight first parts)
-    ready_entered = record {
+    ready_entered own ends ready brought = record {
       outline_is = λ i. record { owner = owner.0; size = parts_length parts; kind = kept_type kind; status = ready_status plan ready ends i };
       unmarked = refl;
       stands = record {
         stands = (
-          cells_by recipe (subst (λ (list : List ℕ). AllByRecursion (λ (source : ℕ). named source (builds s.limits.page h) ≡ true) list)
-              (sym (sources_made s.limits.page first views parts)) known)
-              ∙ recipes_stand (builds s.limits.page h) now_all now s.limits.page name first 0 views parts sized found_own ranges,
+          recipe_is,
           refl,
           all_brought now_all now first (all_lengths s.limits.page parts) own brought
               ∙ sym (only_own (own_step_cells now_all) (λ view. refl) (λ source off len. refl) s.limits.page first views parts),
@@ -446,9 +452,120 @@ module _ (s : Session) (h later : History) (owner : RendererId) (name : ℕ) (ki
       slots = tt;
     }
 
+    -- the views of a blob whose bytes aren't there yet
+    fixed_alone : AllByRecursion (IsInside now_all now) ((fixed_views recipe ++ []) ++ [])
+    fixed_alone =
+        all_append (IsInside now_all now) (fixed_views recipe ++ []) []
+        (all_append (IsInside now_all now) (fixed_views recipe) [] (fixed_inside now_all now recipe steps_sound) tt) tt
+
+    waiting_entered : (n : ℕ) → plan ≡ plans.Shared n → ended later name ≡ None → was_granted later name ≡ false
+        → IsEntered s later (as_built plan) now (pending_entry owner kind parts s.limits.page first views statuses.PendingQuota)
+        (coming_row (Some plan) (as_built plan).weight first parts waiting)
+    waiting_entered n shared ends ungranted = record {
+      outline_is = λ i. record { owner = owner.0; size = parts_length parts; kind = kept_type kind; status = status i };
+      unmarked = refl;
+      stands = record {
+        stands = (recipe_is, refl, refl);
+        steps = steps_sound;
+        inside = fixed_alone;
+        owned = λ pending. own_numbered;
+        sources = λ pending. sources_made s.limits.page first views parts;
+      };
+      row_is = λ i. record {
+        plan = Some plan;
+        weight = (as_built plan).weight;
+        first = first_piece s h later (as_built plan) adds i;
+        lengths = own_lengths parts;
+        coming = coming i;
+      };
+      slots = tt;
+    }
+      where
+        status : statuses.PendingQuota ≡ status_now s later (as_built plan)
+        status =
+            sym (λ i. unwrap_or (ends i) (cond (is_none (ends i) && is_shared (Some (shared i)) && not (ungranted i)) statuses.PendingQuota
+            (cond (has_all s.limits later (as_built plan)) statuses.PendingReferencedBlobs statuses.PendingTransport)))
+
+        coming : waiting ≡ coming_of s later (as_built plan)
+        coming =
+            sym (ap (λ (o : Option Status). cond (is_none o) (coming_by s later (as_built plan) (Some plan)) settled) ends
+            ∙ by plan shared)
+          where
+            by : (each : Plan) → each ≡ plans.Shared n → coming_by s later (as_built plan) (Some each) ≡ waiting
+            by (plans.Shared m) same =
+                λ i. cond (option_map_or grants_at_once (Some (shared i)) false || ungranted i)
+                (cond (has_all s.limits later (as_built plan)) settled (gathering (gathered_of s later (as_built plan)))) waiting
+            by plans.None same = absurd (cc same)
+            by plans.Inline same = absurd (cc same)
+            by (plans.File m) same = absurd (cc same)
+            by plans.OutOfMemory same = absurd (cc same)
+            by (plans.TooMany what) same = absurd (cc same)
+
+    -- no segment of a blob that comes has come
+    abbrev none_came : List Bool
+    none_came = map (λ (segment : ℕ). false) (range_with_len 0 (length (spans s.limits (as_built plan))))
+
+    writing_entered : (n : ℕ) (slots : List ℕ) → plan ≡ plans.File n → ended later name ≡ None → arrivals later name ≡ []
+        → 0 < length (spans s.limits (as_built plan)) → map (piece_at now) slots ≡ map (λ (number : ℕ). Some number) (own_pieces s.limits.page later name)
+        → IsEntered s later (as_built plan) now (pending_entry owner kind parts s.limits.page first views statuses.PendingTransport)
+        (coming_row (Some plan) (as_built plan).weight first parts (writing slots none_came))
+    writing_entered n slots filed ends quiet some written = record {
+      outline_is = λ i. record { owner = owner.0; size = parts_length parts; kind = kept_type kind; status = status i };
+      unmarked = refl;
+      stands = record {
+        stands = (recipe_is, refl, refl);
+        steps = steps_sound;
+        inside = fixed_alone;
+        owned = λ pending. own_numbered;
+        sources = λ pending. sources_made s.limits.page first views parts;
+      };
+      row_is = λ i. record {
+        plan = Some plan;
+        weight = (as_built plan).weight;
+        first = first_piece s h later (as_built plan) adds i;
+        lengths = own_lengths parts;
+        coming = coming i;
+      };
+      slots = written;
+    }
+      where
+        all_missing : (from count : ℕ) → length (filter (λ (segment : ℕ). not (has_come (arrivals later name) segment)) (range_with_len from count)) ≡ count
+        all_missing from zero = refl
+        all_missing from (suc count) =
+            (λ i. length (cond {A = List ℕ} (not (has_come (quiet i) from)) (from ∷ filter (λ (segment : ℕ). not (has_come (arrivals later name) segment)) (range_with_len (from + 1) count)) (filter (λ (segment : ℕ). not (has_come (arrivals later name) segment)) (range_with_len (from + 1) count))))
+            ∙ ap suc (all_missing (from + 1) count)
+
+        lacks : has_all s.limits later (as_built plan) ≡ false
+        lacks =
+            let many = all_missing 0 (length (spans s.limits (as_built plan))) in
+            not_same (length (missing s.limits later (as_built plan))) 0 (λ none. absurd (omega (arith, none, many, some)))
+
+        status : statuses.PendingTransport ≡ status_now s later (as_built plan)
+        status =
+            sym (λ i. unwrap_or (ends i) (cond (is_none (ends i) && is_shared (Some (filed i)) && not (was_granted later name)) statuses.PendingQuota
+            (cond (lacks i) statuses.PendingReferencedBlobs statuses.PendingTransport)))
+
+        coming : writing [] none_came ≡ coming_of s later (as_built plan)
+        coming =
+            sym (ap (λ (o : Option Status). cond (is_none o) (coming_by s later (as_built plan) (Some plan)) settled) ends
+            ∙ by plan filed)
+          where
+            by : (each : Plan) → each ≡ plans.File n → coming_by s later (as_built plan) (Some each) ≡ writing [] none_came
+            by (plans.File m) same =
+                λ i. cond (lacks i) settled (writing [] (map (λ (segment : ℕ). has_come (quiet i) segment) (range_with_len 0 (length (spans s.limits (as_built plan))))))
+            by plans.None same = absurd (cc same)
+            by plans.Inline same = absurd (cc same)
+            by (plans.Shared m) same = absurd (cc same)
+            by plans.OutOfMemory same = absurd (cc same)
+            by (plans.TooMany what) same = absurd (cc same)
+
 pub new_entries : NewEntries
 new_entries = record {
   broken = broken_entered;
   ready = λ s h later owner name kind parts plan now views own sized adds ends ready known ranges brought.
-      ready_entered s h later owner name kind parts plan now views own sized adds ends ready known ranges brought;
+      ready_entered s h later owner name kind parts plan now views sized adds known ranges own ends ready brought;
+  waits = λ s h later owner name kind parts n now views sized adds ends ungranted known ranges.
+      waiting_entered s h later owner name kind parts (plans.Shared n) now views sized adds known ranges n refl ends ungranted;
+  writes = λ s h later owner name kind parts n now views slots sized adds ends quiet known ranges some written.
+      writing_entered s h later owner name kind parts (plans.File n) now views sized adds known ranges n slots refl ends quiet some written;
 }
