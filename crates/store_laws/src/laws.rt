@@ -166,8 +166,8 @@ pub fn unbuilt_unended()
     ensures { UnbuiltUnended }
 {}
 
-/// The entry and the row of a blob that broke at its line, and of one with all its own bytes at hand,
-/// stand for it.
+/// The entry and the row of a new blob stand for it: broken at its line, with all its own bytes at
+/// hand, waiting for room, or with segments that go to page files.
 pub fn new_entries()
     ensures { NewEntries }
 {}
