@@ -35,7 +35,7 @@ Entries = List (Option Entry)
 
 -- ---- what drops leave
 
-drops_keep : {X : Type 0} (notion : History → X) → ((g : History) (name : ℕ) → notion (said g (answers.Dropped name)) ≡ notion g)
+pub drops_keep : {X : Type 0} (notion : History → X) → ((g : History) (name : ℕ) → notion (said g (answers.Dropped name)) ≡ notion g)
     → (g : History) (list : List Build)
     → notion (said_all g (dropping list)) ≡ notion g
 drops_keep notion keeps g [] = refl
@@ -118,7 +118,7 @@ module _ (s : Session) (h : History) (names : List ℕ) (whole : Entries) (sound
   abbrev pub next : History
   next = said_all h (dropping (filter (goes h alive) (reverse all)))
 
-  stays : (build : Build) → alive build.name ≡ true → StandsAs s h next build
+  pub stays : (build : Build) → alive build.name ≡ true → StandsAs s h next build
   stays build lives = record {
     end = living_kept h alive h (reverse all) build.name lives;
     grant = drops_keep (λ (g : History). was_granted g build.name) (λ g name. refl) h (filter (goes h alive) (reverse all));

@@ -73,10 +73,10 @@ stands_as s g build other apart =
       root = refl;
     })
 
-granted_as : (s : Session) (g next : History) (build : Build) → StandsAs s g next build → is_granted next build ≡ is_granted g build
+pub granted_as : (s : Session) (g next : History) (build : Build) → StandsAs s g next build → is_granted next build ≡ is_granted g build
 granted_as s g next build same = ap (λ (b : Bool). option_map_or grants_at_once build.plan false || b) same.grant
 
-breaks_same : (s : Session) (g next : History) (build : Build) → StandsAs s g next build → breaks_as s next build ≡ breaks_as s g build
+pub breaks_same : (s : Session) (g next : History) (build : Build) → StandsAs s g next build → breaks_as s next build ≡ breaks_as s g build
 breaks_same s g next build same =
     let written : is_unwritten s next build ≡ is_unwritten s g build =
     λ i. option_map_or (λ (name : ℕ). name == build.name) (same.write i) false

@@ -32,7 +32,7 @@ map-same : {X Y : Type 0} (f g : X → Y) → ((x : X) → f x ≡ g x) → (xs 
 map-same f g same [] = refl
 map-same f g same (x ∷ xs) = ap (λ y. y ∷ map f xs) (same x) ∙ ap (λ ys. g x ∷ ys) (map-same f g same xs)
 
-map-map : {X Y Z : Type 0} (g : Y → Z) (f : X → Y) (xs : List X) → map g (map f xs) ≡ map (λ x. g (f x)) xs
+pub map-map : {X Y Z : Type 0} (g : Y → Z) (f : X → Y) (xs : List X) → map g (map f xs) ≡ map (λ x. g (f x)) xs
 map-map g f [] = refl
 map-map g f (x ∷ xs) = ap (λ ys. g (f x) ∷ ys) (map-map g f xs)
 
@@ -64,16 +64,21 @@ range-cells slot start off len = map-shifted (λ (index : ℕ). lent slot index)
 
 -- ---- items that change their place
 
+-- views whose places say the same in two ways
+pub cells-same : (f g : ℕ × ℕ → Cell) (views : List View) → AllByRecursion (λ (view : View). (place : ℕ) → f (view.slot, place) ≡ g (view.slot, place)) views
+    → map f (cells views) ≡ map g (cells views)
+cells-same f g [] same = refl
+cells-same f g (view ∷ views) same =
+    map-append f (view_cells view) (cells views)
+    ∙ ap (λ (front : List Cell). front ++ map f (cells views))
+    (
+    map-map f (λ (place : ℕ). (view.slot, place)) (range_with_len view.off view.len)
+    ∙ map-same (λ (place : ℕ). f (view.slot, place)) (λ (place : ℕ). g (view.slot, place)) same.0 (range_with_len view.off view.len)
+    ∙ sym (map-map g (λ (place : ℕ). (view.slot, place)) (range_with_len view.off view.len))
+    )
+    ∙ ap (λ (rest : List Cell). map g (view_cells view) ++ rest) (cells-same f g views same.1)
+    ∙ sym (map-append g (view_cells view) (cells views))
+
 pub denoted-same : (all : List Piece) (old new : List (Option Share)) (views : List View) → AllByRecursion (IsSameAt all old new) views
     → denoted all new views ≡ denoted all old views
-denoted-same all old new [] same = refl
-denoted-same all old new (view ∷ views) same =
-    map-append (cell_at all new) (view_cells view) (cells views)
-    ∙ ap (λ (front : List Cell). front ++ denoted all new views)
-    (
-    map-map (cell_at all new) (λ (place : ℕ). (view.slot, place)) (range_with_len view.off view.len)
-    ∙ map-same (λ (place : ℕ). cell_at all new (view.slot, place)) (λ (place : ℕ). cell_at all old (view.slot, place)) same.0 (range_with_len view.off view.len)
-    ∙ sym (map-map (cell_at all old) (λ (place : ℕ). (view.slot, place)) (range_with_len view.off view.len))
-    )
-    ∙ ap (λ (rest : List Cell). map (cell_at all old) (view_cells view) ++ rest) (denoted-same all old new views same.1)
-    ∙ sym (map-append (cell_at all old) (view_cells view) (cells views))
+denoted-same all old new views same = cells-same (cell_at all new) (cell_at all old) views same

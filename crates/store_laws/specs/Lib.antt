@@ -16,3 +16,13 @@ pub mod ReachLaws
 pub mod PageLaws
 pub mod AgreeLaws
 pub mod LineLaws
+pub mod CountLaws
+pub mod SweepLaws
+pub mod LetGo
+pub mod Swept
+pub mod Roots
+pub mod Apart
+pub mod TableLaws
+pub mod BuildLaws
+pub mod PartLaws
+pub mod EntryLaws

@@ -1,9 +1,16 @@
 ghost use Rattle.store_laws.specs.AgreeLaws.{EntriesAgree, ReachesFollows};
+ghost use Rattle.store_laws.specs.BuildLaws.{BuildsAdd, ContentsGrow, GrownStands, ListedAreThere};
 ghost use Rattle.store_laws.specs.PageLaws.{ArePagesInTurn, DiskIsCharged};
+ghost use Rattle.store_laws.specs.PartLaws.{RecipesStand};
 ghost use Rattle.store_laws.specs.ReachLaws.{ChargesAreTold, HeldIsReached, SettledRests, SlotsAreReached};
 ghost use Rattle.store_laws.specs.CellLaws.{DenotedLaws};
+ghost use Rattle.store_laws.specs.CountLaws.{TellsHowMany};
+ghost use Rattle.store_laws.specs.EntryLaws.{NewEntries, UnbuiltUnended};
 ghost use Rattle.store_laws.specs.GroupLaws.{GroupLegal, LateListsKeepLives, OwnLives};
+ghost use Rattle.store_laws.specs.LetGo.{ItemsLetGo, OrderLetGo, PagesLetGo, QueueLetGo};
 ghost use Rattle.store_laws.specs.LineLaws.{LinesStand, NewStands, NoneIsMarked};
+ghost use Rattle.store_laws.specs.SweepLaws.{SweepLeavesLive};
+ghost use Rattle.store_laws.specs.Swept.{SweptStands};
 
 /// A line's own answers and the seven lists of settling, each after the one before, make a legal
 /// group.
@@ -86,4 +93,81 @@ pub fn lines_stand()
 /// A store that has heard nothing stands for what comes after the line of the limits.
 pub fn new_stands()
     ensures { NewStands }
+{}
+
+/// What `tally` answers is how much there is of what the parts have, and it changes nothing.
+pub fn tells_how_many()
+    ensures { TellsHowMany }
+{}
+
+/// A sweep leaves the entries of the live blobs, and behind the drops what is left stands for them.
+pub fn sweep_leaves_live()
+    ensures { SweepLeavesLive }
+{}
+
+/// Page files and the job in flight stand for the items that are left, once each item that goes is
+/// let go there.
+pub fn pages_let_go()
+    ensures { PagesLetGo }
+{}
+
+/// The order of use, without the pieces of the items that go, is that of the pieces that are left.
+pub fn order_let_go()
+    ensures { OrderLetGo }
+{}
+
+/// When views go and no item stands without one, items went, and those with a view left, or with a
+/// piece on its way, are where they were.
+pub fn items_let_go()
+    ensures { ItemsLetGo }
+{}
+
+/// The queue, without the blobs that are dropped, is that of those that wait still.
+pub fn queue_let_go()
+    ensures { QueueLetGo }
+{}
+
+/// What a sweep leaves of entries, rows, items, queue, page files and order of use stands behind the
+/// drops, for the live blobs.
+pub fn swept_stands()
+    ensures { SweptStands }
+{}
+
+/// Entries, items and charges stand for the history with a new blob, where its entry, its row and
+/// its items come.
+pub fn contents_grow()
+    ensures { ContentsGrow }
+{}
+
+/// In a legal transcript whatever page files list and the job in flight names is a piece of a blob.
+pub fn listed_are_there()
+    ensures { ListedAreThere }
+{}
+
+/// In a legal transcript an accepted line that builds adds its blob, and changes nothing else of what
+/// the contents stand for.
+pub fn builds_add()
+    ensures { BuildsAdd }
+{}
+
+/// The parts stand for the history with a new blob, where the tables beside them do.
+pub fn grown_stands()
+    ensures { GrownStands }
+{}
+
+/// A recipe of parts stands for their cells, where its pieces are found and its slots hold the
+/// ranges.
+pub fn recipes_stand()
+    ensures { RecipesStand }
+{}
+
+/// In a legal transcript a blob that was not built has not ended.
+pub fn unbuilt_unended()
+    ensures { UnbuiltUnended }
+{}
+
+/// The entry and the row of a new blob stand for it: broken at its line, with all its own bytes at
+/// hand, waiting for room, or with segments that go to page files.
+pub fn new_entries()
+    ensures { NewEntries }
 {}
