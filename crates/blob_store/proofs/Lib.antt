@@ -1,5 +1,4 @@
 pub mod Releasing
-pub mod OwnedReaders
 pub mod Opening
 pub mod Rooting
 pub mod Changed
@@ -7,9 +6,3 @@ pub mod Faults
 pub mod Holding
 pub mod Spawning
 pub mod Sweeping
-pub mod Beginning
-pub mod Heard
-pub mod HeldBy
-pub mod Few
-pub mod Beside
-pub mod Freeing

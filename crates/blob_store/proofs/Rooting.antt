@@ -1,5 +1,5 @@
 -- Who has a handle on a blob has it stand, and what a change of handles makes of their number.
-use Rattle.std.proofs.Common.{◌≡◌, ℕ, ◌+◌, ◌<◌, ◌≤◌, Bool, List, [], Option, Some, None, cond, refl, ap, ◌∙◌, arith}
+use Rattle.std.proofs.Common.{◌≡◌, ℕ, ◌+◌, ◌<◌, ◌≤◌, ◌==◌, Bool, List, [], Option, Some, None, cond, refl, ap, ◌∙◌, arith}
 use Rattle.std.specs.Prelude.{is_some, sum_by, unwrap_or, IsSomeAnd}
 use Rattle.std.specs.Option.{option_map, option_map_or}
 use Rattle.std.specs.Ordering.{nat_cmp}
