@@ -1,5 +1,6 @@
 //! Questions on what a disk did.
-ghost use Rattle.std.specs.Prelude.{◌≡◌, list_any};
+ghost use Rattle.std.specs.Prelude.{◌≡◌};
+ghost use Rattle.std.specs.List.{list_any};
 ghost use Rattle.page_disk.specs.Changes.{removes, writes};
 
 use page_disk::Change;

@@ -39,7 +39,7 @@ fn remove_most<D: Watched>(disk: &mut D) -> Result<u32, Fail>
 fn the_last_of_sixteen_takes_writes(rt: HostRuntime) -> Result<(), Fail> {
     let heap = rt.alloc();
     let mut volumes: Vec<Box<dyn Volume>> = Vec::new(heap);
-    for _ in 0..16 {
+    for _place in 0..16 {
         let failing = Octets64::from_slice(heap, &[1])?;
         volumes.push(Box::new(heap, MemoryVolume::new(heap, failing))?)?;
     }
