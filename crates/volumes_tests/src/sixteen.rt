@@ -1,10 +1,12 @@
 //! As many volumes as there may be, each of which fails at its second write.
-ghost use Rattle.std.specs.Prelude.{◌≡◌, false, None};
+ghost use Rattle.std.specs.Prelude.{◌≡◌, [], ◌∷◌, false, None, IfOk};
+ghost use Rattle.page_volumes.specs.Memory.{new_store};
 
 use crate::calls::{Call, answer, follow};
 use crate::watched::Watched;
 use blob_words::Octets64;
 use page_volumes::{MemoryVolume, Volume, Volumes};
+use std::alloc::Global;
 use std::test::Fail;
 
 // Writes 32 pages; gives how many are torn.
@@ -35,14 +37,34 @@ fn remove_most<D: Watched>(disk: &mut D) -> Result<u32, Fail>
     Ok(gone)
 }
 
+// A volume whose second write fails.
+fn second_fails(heap: Global) -> Result<Box<MemoryVolume>, Fail>
+    ensures { IfOk result (λ volume. volume.value ≡ new_store (1 ∷ [])) }
+{
+    let failing = Octets64::from_slice(heap, &[1])?;
+    Ok(Box::new(heap, MemoryVolume::new(heap, failing))?)
+}
+
 #[test]
 fn the_last_of_sixteen_takes_writes(rt: HostRuntime) -> Result<(), Fail> {
     let heap = rt.alloc();
     let mut volumes: Vec<Box<dyn Volume>> = Vec::new(heap);
-    for _place in 0..16 {
-        let failing = Octets64::from_slice(heap, &[1])?;
-        volumes.push(Box::new(heap, MemoryVolume::new(heap, failing))?)?;
-    }
+    volumes.push(second_fails(heap)?)?;
+    volumes.push(second_fails(heap)?)?;
+    volumes.push(second_fails(heap)?)?;
+    volumes.push(second_fails(heap)?)?;
+    volumes.push(second_fails(heap)?)?;
+    volumes.push(second_fails(heap)?)?;
+    volumes.push(second_fails(heap)?)?;
+    volumes.push(second_fails(heap)?)?;
+    volumes.push(second_fails(heap)?)?;
+    volumes.push(second_fails(heap)?)?;
+    volumes.push(second_fails(heap)?)?;
+    volumes.push(second_fails(heap)?)?;
+    volumes.push(second_fails(heap)?)?;
+    volumes.push(second_fails(heap)?)?;
+    volumes.push(second_fails(heap)?)?;
+    volumes.push(second_fails(heap)?)?;
     let mut disk = Volumes::recording(heap, volumes)?;
     let mut text = String::new(heap);
     let torn = put_all(&mut disk)?;
