@@ -73,15 +73,21 @@ impl<V: Volume> Array<V> {
         ensures ok { OnOk result ((writing_of (of_array V.seen self.new)
             ≡ Some (record { page = page; len = len; came = 0 }))
             × (changes_of (of_array V.seen self.new) ≡ changes_of (of_array V.seen self.old))
-            × IfSome (changes_of (of_array V.seen self.new)) (λ _. came_of (of_array V.seen self.new) ≡ [])) }
-        ensures failed { IsErrOf result PutFault.Failed → (writing_of (of_array V.seen self.new) ≡ None)
-            × (changes_of (of_array V.seen self.new) ≡ with_change (Torn page) (changes_of (of_array V.seen self.old)))
+            × IfSome (changes_of (of_array V.seen self.new))
+            (λ _. came_of (of_array V.seen self.new) ≡ [])) }
+        ensures failed { IsErrOf result PutFault.Failed
+            → (writing_of (of_array V.seen self.new) ≡ None)
+            × (changes_of (of_array V.seen self.new)
+            ≡ with_change (Torn page) (changes_of (of_array V.seen self.old)))
             × Rose (faults_of (of_array V.seen self.old)) (faults_of (of_array V.seen self.new)) }
-        ensures memory { IsErrOf result PutFault.NoMemory → (writing_of (of_array V.seen self.new) ≡ None)
+        ensures memory { IsErrOf result PutFault.NoMemory
+            → (writing_of (of_array V.seen self.new) ≡ None)
             × (changes_of (of_array V.seen self.new) ≡ changes_of (of_array V.seen self.old))
             × (faults_of (of_array V.seen self.new) ≡ faults_of (of_array V.seen self.old)) }
-        ensures good { OnOk result (faults_of (of_array V.seen self.new) ≡ faults_of (of_array V.seen self.old)) }
-        ensures later { faults_of (of_array V.seen self.old) ≤ faults_of (of_array V.seen self.new) }
+        ensures good { OnOk result
+            (faults_of (of_array V.seen self.new) ≡ faults_of (of_array V.seen self.old)) }
+        ensures later { faults_of (of_array V.seen self.old)
+            ≤ faults_of (of_array V.seen self.new) }
         ensures meter { (of_array V.seen self.new).meter ≡ (of_array V.seen self.old).meter }
     {
         self.members.begin(page, len)
@@ -89,19 +95,27 @@ impl<V: Volume> Array<V> {
 
     // Writes the next bytes of the open write.
     pub fn append(&mut self, bytes: &[u8]) -> Result<(), Failed>
-        requires fits { IsSomeAnd (writing_of (of_array V.seen self.old)) (λ write. write.came + length bytes.now ≤ write.len) }
+        requires fits { IsSomeAnd (writing_of (of_array V.seen self.old))
+            (λ write. write.came + length bytes.now ≤ write.len) }
         requires some { 0 < length bytes.now }
         requires most { length bytes.now ≤ 65536 }
-        ensures act { Appends bytes.now (of_array V.seen self.old) result (of_array V.seen self.new) }
-        ensures ok { OnOk result ((writing_of (of_array V.seen self.new) ≡ with_more (length bytes.now) (writing_of (of_array V.seen self.old)))
+        ensures act { Appends bytes.now (of_array V.seen self.old) result
+            (of_array V.seen self.new) }
+        ensures ok { OnOk result ((writing_of (of_array V.seen self.new)
+            ≡ with_more (length bytes.now) (writing_of (of_array V.seen self.old)))
             × (changes_of (of_array V.seen self.new) ≡ changes_of (of_array V.seen self.old))
             × IfSome (changes_of (of_array V.seen self.new))
-            (λ _. came_of (of_array V.seen self.new) ≡ came_of (of_array V.seen self.old) ++ bytes.now)) }
+            (λ _. came_of (of_array V.seen self.new)
+            ≡ came_of (of_array V.seen self.old) ++ bytes.now)) }
         ensures failed { OnErr result ((writing_of (of_array V.seen self.new) ≡ None)
-            × (changes_of (of_array V.seen self.new) ≡ with_torn (writing_of (of_array V.seen self.old)) (changes_of (of_array V.seen self.old)))
+            × (changes_of (of_array V.seen self.new)
+            ≡ with_torn (writing_of (of_array V.seen self.old))
+            (changes_of (of_array V.seen self.old)))
             × Rose (faults_of (of_array V.seen self.old)) (faults_of (of_array V.seen self.new))) }
-        ensures good { OnOk result (faults_of (of_array V.seen self.new) ≡ faults_of (of_array V.seen self.old)) }
-        ensures later { faults_of (of_array V.seen self.old) ≤ faults_of (of_array V.seen self.new) }
+        ensures good { OnOk result
+            (faults_of (of_array V.seen self.new) ≡ faults_of (of_array V.seen self.old)) }
+        ensures later { faults_of (of_array V.seen self.old)
+            ≤ faults_of (of_array V.seen self.new) }
         ensures meter { (of_array V.seen self.new).meter ≡ (of_array V.seen self.old).meter }
     {
         self.members.append(bytes)
@@ -109,16 +123,22 @@ impl<V: Volume> Array<V> {
 
     // Ends the open write.
     pub fn seal(&mut self) -> Result<(), Failed>
-        requires whole { IsSomeAnd (writing_of (of_array V.seen self.old)) (λ write. write.came ≡ write.len) }
+        requires whole { IsSomeAnd (writing_of (of_array V.seen self.old))
+            (λ write. write.came ≡ write.len) }
         ensures act { Seals (of_array V.seen self.old) result (of_array V.seen self.new) }
         ensures closed { writing_of (of_array V.seen self.new) ≡ None }
-        ensures ok { OnOk result (changes_of (of_array V.seen self.new) ≡ with_put (writing_of (of_array V.seen self.old))
+        ensures ok { OnOk result
+            (changes_of (of_array V.seen self.new)
+            ≡ with_put (writing_of (of_array V.seen self.old))
             (came_of (of_array V.seen self.old)) (changes_of (of_array V.seen self.old))) }
         ensures failed { OnErr result ((changes_of (of_array V.seen self.new)
-            ≡ with_torn (writing_of (of_array V.seen self.old)) (changes_of (of_array V.seen self.old)))
+            ≡ with_torn (writing_of (of_array V.seen self.old))
+            (changes_of (of_array V.seen self.old)))
             × Rose (faults_of (of_array V.seen self.old)) (faults_of (of_array V.seen self.new))) }
-        ensures good { OnOk result (faults_of (of_array V.seen self.new) ≡ faults_of (of_array V.seen self.old)) }
-        ensures later { faults_of (of_array V.seen self.old) ≤ faults_of (of_array V.seen self.new) }
+        ensures good { OnOk result
+            (faults_of (of_array V.seen self.new) ≡ faults_of (of_array V.seen self.old)) }
+        ensures later { faults_of (of_array V.seen self.old)
+            ≤ faults_of (of_array V.seen self.new) }
         ensures meter { (of_array V.seen self.new).meter ≡ (of_array V.seen self.old).meter }
     {
         self.members.seal()
@@ -127,17 +147,25 @@ impl<V: Volume> Array<V> {
     // Fills `out` with the bytes of a page from `off` on.
     pub fn get(&mut self, page: PageNo, off: u64, out: &mut [u8]) -> Result<(), Failed>
         requires closed { writing_of (of_array V.seen self.old) ≡ None }
-        requires there { IfSome (changes_of (of_array V.seen self.old)) (HasRange page.0 off (length out.old)) }
-        ensures act { Gets page.0 off (of_array V.seen self.old) result out.new (of_array V.seen self.new) }
+        requires there { IfSome (changes_of (of_array V.seen self.old))
+            (HasRange page.0 off (length out.old)) }
+        ensures act { Gets page.0 off (of_array V.seen self.old) result out.new
+            (of_array V.seen self.new) }
         ensures closed { writing_of (of_array V.seen self.new) ≡ None }
-        ensures same { changes_of (of_array V.seen self.new) ≡ changes_of (of_array V.seen self.old) }
-        ensures bytes { OnOk result (IfSome (changes_of (of_array V.seen self.old)) (λ changes. IsSomeAnd (last_put page.0 changes)
+        ensures same { changes_of (of_array V.seen self.new)
+            ≡ changes_of (of_array V.seen self.old) }
+        ensures bytes { OnOk result (IfSome (changes_of (of_array V.seen self.old))
+            (λ changes. IsSomeAnd (last_put page.0 changes)
             (λ bytes. out.new ≡ take (length out.old) (drop off bytes)))) }
-        ensures failed { OnErr result (Rose (faults_of (of_array V.seen self.old)) (faults_of (of_array V.seen self.new))) }
-        ensures good { OnOk result (faults_of (of_array V.seen self.new) ≡ faults_of (of_array V.seen self.old)) }
-        ensures later { faults_of (of_array V.seen self.old) ≤ faults_of (of_array V.seen self.new) }
+        ensures failed { OnErr result (Rose (faults_of (of_array V.seen self.old))
+            (faults_of (of_array V.seen self.new))) }
+        ensures good { OnOk result
+            (faults_of (of_array V.seen self.new) ≡ faults_of (of_array V.seen self.old)) }
+        ensures later { faults_of (of_array V.seen self.old)
+            ≤ faults_of (of_array V.seen self.new) }
         ensures meter { MatchResult result
-            (λ _. (of_array V.seen self.new).meter ≡ min ((of_array V.seen self.old).meter + length out.old) (2 ^ 64 - 1))
+            (λ _. (of_array V.seen self.new).meter
+            ≡ min ((of_array V.seen self.old).meter + length out.old) (2 ^ 64 - 1))
             (λ _. (of_array V.seen self.new).meter ≡ (of_array V.seen self.old).meter) }
         ensures len { length out.new ≡ length out.old }
     {
@@ -150,12 +178,16 @@ impl<V: Volume> Array<V> {
         requires there { IfSome (changes_of (of_array V.seen self.old)) (Stands page.0) }
         ensures act { Removes page (of_array V.seen self.old) result (of_array V.seen self.new) }
         ensures closed { writing_of (of_array V.seen self.new) ≡ None }
-        ensures ok { OnOk result (changes_of (of_array V.seen self.new) ≡ with_change (Remove page) (changes_of (of_array V.seen self.old))) }
+        ensures ok { OnOk result
+            (changes_of (of_array V.seen self.new)
+            ≡ with_change (Remove page) (changes_of (of_array V.seen self.old))) }
         ensures failed { OnErr result ((changes_of (of_array V.seen self.new)
             ≡ with_change (Left page) (changes_of (of_array V.seen self.old)))
             × Rose (faults_of (of_array V.seen self.old)) (faults_of (of_array V.seen self.new))) }
-        ensures good { OnOk result (faults_of (of_array V.seen self.new) ≡ faults_of (of_array V.seen self.old)) }
-        ensures later { faults_of (of_array V.seen self.old) ≤ faults_of (of_array V.seen self.new) }
+        ensures good { OnOk result
+            (faults_of (of_array V.seen self.new) ≡ faults_of (of_array V.seen self.old)) }
+        ensures later { faults_of (of_array V.seen self.old)
+            ≤ faults_of (of_array V.seen self.new) }
         ensures meter { (of_array V.seen self.new).meter ≡ (of_array V.seen self.old).meter }
     {
         self.members.remove(page)

@@ -24,7 +24,8 @@ impl Model for Incoming {
       room = incoming.room;
     } };
 
-    ghost invariant = { λ incoming. vec_len incoming.bytes + incoming.room ≤ vec_capacity incoming.bytes };
+    ghost invariant = { λ incoming. vec_len incoming.bytes + incoming.room
+        ≤ vec_capacity incoming.bytes };
 }
 
 impl Incoming {

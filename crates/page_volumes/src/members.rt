@@ -45,7 +45,8 @@ impl<V: Volume> Members<V> {
 
     // Nothing is known any more of the file of a page.
     fn forget(&mut self, page: PageNo)
-        requires { IfSome (place_of page.0 self.old.files.filed) (λ k. k < length (of_places V.seen self.old.places)) }
+        requires { IfSome (place_of page.0 self.old.files.filed)
+            (λ k. k < length (of_places V.seen self.old.places)) }
         ensures act { of_members V.seen self.new ≡ forgotten page.0 (of_members V.seen self.old) }
         ensures spare { self.new.files.spare ≡ self.old.files.spare }
         ensures fewer { length self.new.files.filed ≤ length self.old.files.filed }
@@ -60,7 +61,8 @@ impl<V: Volume> Members<V> {
     // The write of a page failed: its torn file is to be removed, and its volume to be retired.
     fn tear(&mut self, page: PageNo)
         requires writes { takes_writes (of_places V.seen self.old.places) ≡ true }
-        requires there { CanRemoveAt page.0 (of_places V.seen self.old.places) (writer_of (of_places V.seen self.old.places)) }
+        requires there { CanRemoveAt page.0
+            (of_places V.seen self.old.places) (writer_of (of_places V.seen self.old.places)) }
         requires room { CanFile 0 self.old.files self.old.log }
         ensures act { Sweeps page (of_members V.seen self.old) (of_members V.seen self.new) }
         ensures write { self.new.write ≡ self.old.write }
@@ -76,13 +78,16 @@ impl<V: Volume> Members<V> {
     // Begins a write on the least volume that isn't retired.
     pub fn begin(&mut self, page: PageNo, len: u64) -> Result<(), PutFault>
         requires writes { takes_writes (of_places V.seen self.old.places) ≡ true }
-        requires ready { IsSomeAnd (object_at (of_places V.seen self.old.places) (writer_of (of_places V.seen self.old.places)))
+        requires ready { IsSomeAnd (object_at
+            (of_places V.seen self.old.places) (writer_of (of_places V.seen self.old.places)))
             (λ seen. (seen.write ≡ None) × HasNone page.0 seen) }
         requires some { 0 < len }
-        requires homes { IfSome (place_of page.0 self.old.files.filed) (λ k. k < length (of_places V.seen self.old.places)) }
+        requires homes { IfSome (place_of page.0 self.old.files.filed)
+            (λ k. k < length (of_places V.seen self.old.places)) }
         requires closed { self.old.write ≡ None }
         requires room { CanRemove self.old.files self.old.log }
-        ensures act { Begins page len (of_members V.seen self.old) result (of_members V.seen self.new) }
+        ensures act { Begins page len (of_members V.seen self.old) result
+            (of_members V.seen self.new) }
         ensures room { HasRoom self.new.files self.new.write self.new.log }
     {
         if prepare(&mut self.files, &mut self.log, len).is_err() {
@@ -108,13 +113,16 @@ impl<V: Volume> Members<V> {
     // Writes the next bytes of the open write.
     pub fn append(&mut self, bytes: &[u8]) -> Result<(), Failed>
         requires writes { takes_writes (of_places V.seen self.old.places) ≡ true }
-        requires ready { IsSomeAnd (object_at (of_places V.seen self.old.places) (writer_of (of_places V.seen self.old.places)))
+        requires ready { IsSomeAnd (object_at
+            (of_places V.seen self.old.places) (writer_of (of_places V.seen self.old.places)))
             (λ seen. seen.write ≡ option_map open_of self.old.write) }
-        requires fits { IsSomeAnd self.old.write (λ write. write.came + length bytes.now ≤ write.len) }
+        requires fits { IsSomeAnd self.old.write
+            (λ write. write.came + length bytes.now ≤ write.len) }
         requires some { 0 < length bytes.now }
         requires most { length bytes.now ≤ 65536 }
         requires room { HasRoom self.old.files self.old.write self.old.log }
-        ensures act { Appends bytes.now (of_members V.seen self.old) result (of_members V.seen self.new) }
+        ensures act { Appends bytes.now (of_members V.seen self.old) result
+            (of_members V.seen self.new) }
         ensures room { HasRoom self.new.files self.new.write self.new.log }
     {
         let write = self.write.unwrap();
@@ -139,7 +147,8 @@ impl<V: Volume> Members<V> {
     // Ends the open write.
     pub fn seal(&mut self) -> Result<(), Failed>
         requires writes { takes_writes (of_places V.seen self.old.places) ≡ true }
-        requires ready { IsSomeAnd (object_at (of_places V.seen self.old.places) (writer_of (of_places V.seen self.old.places)))
+        requires ready { IsSomeAnd (object_at
+            (of_places V.seen self.old.places) (writer_of (of_places V.seen self.old.places)))
             (λ seen. seen.write ≡ option_map open_of self.old.write) }
         requires whole { IsSomeAnd self.old.write (λ write. write.came ≡ write.len) }
         requires room { HasRoom self.old.files self.old.write self.old.log }
@@ -176,9 +185,11 @@ impl<V: Volume> Members<V> {
     // Fills `out` with the bytes of a page from `off` on.
     pub fn get(&mut self, page: PageNo, off: u64, out: &mut [u8]) -> Result<(), Failed>
         requires writes { takes_writes (of_places V.seen self.old.places) ≡ true }
-        requires there { IsSomeAnd (object_at (of_places V.seen self.old.places) (asked_at page.0 (of_members V.seen self.old)))
+        requires there { IsSomeAnd (object_at
+            (of_places V.seen self.old.places) (asked_at page.0 (of_members V.seen self.old)))
             (λ seen. (seen.write ≡ None) × HasBytes page.0 off (length out.old) seen) }
-        ensures act { Gets page.0 off (of_members V.seen self.old) result out.new (of_members V.seen self.new) }
+        ensures act { Gets page.0 off (of_members V.seen self.old) result out.new
+            (of_members V.seen self.new) }
         ensures len { length out.new ≡ length out.old }
         ensures files { self.new.files ≡ self.old.files }
         ensures write { self.new.write ≡ self.old.write }
@@ -198,7 +209,8 @@ impl<V: Volume> Members<V> {
     fn let_off(&mut self, k: u32, page: PageNo)
         requires { k < length (of_places V.seen self.old.places) }
         ensures slots { of_places V.seen self.new.places
-            ≡ settled_at (unfiled page.0 self.old.files.filed) k (of_places V.seen self.old.places) }
+            ≡ settled_at (unfiled page.0 self.old.files.filed) k
+            (of_places V.seen self.old.places) }
         ensures files { self.new.files.filed ≡ unfiled page.0 self.old.files.filed }
         ensures write { self.new.write ≡ self.old.write }
         ensures log { self.new.log ≡ self.old.log }
@@ -213,7 +225,8 @@ impl<V: Volume> Members<V> {
         requires there { CanRemoveAt page.0 (of_places V.seen self.old.places) k }
         requires filed { home_of page.0 self.old.files.filed ≡ Some (Some k) }
         requires room { CanRemove self.old.files self.old.log }
-        ensures act { RemovesFrom page (of_members V.seen self.old) (Some (Some k)) result (of_members V.seen self.new) }
+        ensures act { RemovesFrom page (of_members V.seen self.old) (Some (Some k)) result
+            (of_members V.seen self.new) }
         ensures write { self.new.write ≡ self.old.write }
         ensures room { CanRemove self.new.files self.new.log }
     {
@@ -235,7 +248,8 @@ impl<V: Volume> Members<V> {
     fn strike(&mut self, page: PageNo)
         requires filed { home_of page.0 self.old.files.filed ≡ Some None }
         requires room { CanRemove self.old.files self.old.log }
-        ensures act { RemovesFrom page (of_members V.seen self.old) (Some None) (Ok tt) (of_members V.seen self.new) }
+        ensures act { RemovesFrom page (of_members V.seen self.old) (Some None) (Ok tt)
+            (of_members V.seen self.new) }
         ensures write { self.new.write ≡ self.old.write }
         ensures room { CanRemove self.new.files self.new.log }
     {
@@ -246,9 +260,11 @@ impl<V: Volume> Members<V> {
     // Removes the file of a page.
     pub fn remove(&mut self, page: PageNo) -> Result<(), Failed>
         requires writes { takes_writes (of_places V.seen self.old.places) ≡ true }
-        requires there { CanRemoveFrom page.0 (of_places V.seen self.old.places) (home_of page.0 self.old.files.filed) }
+        requires there { CanRemoveFrom page.0
+            (of_places V.seen self.old.places) (home_of page.0 self.old.files.filed) }
         requires room { CanRemove self.old.files self.old.log }
-        ensures act { Removes page (of_members V.seen self.old) result (of_members V.seen self.new) }
+        ensures act { Removes page (of_members V.seen self.old) result
+            (of_members V.seen self.new) }
         ensures write { self.new.write ≡ self.old.write }
         ensures room { CanRemove self.new.files self.new.log }
     {

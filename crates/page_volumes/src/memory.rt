@@ -117,7 +117,8 @@ impl Volume for MemoryVolume {
     }
 
     fn append(&mut self, bytes: &[u8]) -> Result<(), Failed>
-        requires fits { IsSomeAnd self.old.seen.write (λ write. write.came + length bytes.now ≤ write.len) }
+        requires fits { IsSomeAnd self.old.seen.write
+            (λ write. write.came + length bytes.now ≤ write.len) }
         requires some { 0 < length bytes.now }
         requires most { length bytes.now ≤ 65536 }
         ensures act { Appends bytes.now self.old.seen result self.new.seen }
@@ -143,7 +144,8 @@ impl Volume for MemoryVolume {
 
         // It doesn't fail.
         ensures passes { is_err result ≡ false }
-        ensures put { self.new ≡ record self.old { seen = put (open_page self.old.seen.write) self.old.seen } }
+        ensures put { self.new
+            ≡ record self.old { seen = put (open_page self.old.seen.write) self.old.seen } }
     {
         let write = self.write.unwrap();
         let bytes = self.incoming.take();

@@ -21,7 +21,8 @@ impl<V: Volume> Place<V> {
 
     // A volume that takes writes.
     pub fn new(volume: V) -> Place<V>
-        ensures { slot_of V.seen result ≡ record { object = Some (V.seen volume); past = 0; is_retired = false } }
+        ensures { slot_of V.seen result
+            ≡ record { object = Some (V.seen volume); past = 0; is_retired = false } }
     {
         Place {
             volume: Some(volume),
@@ -31,9 +32,11 @@ impl<V: Volume> Place<V> {
     }
 
     pub fn begin(&mut self, page: PageNo, len: u64) -> Result<(), PutFault>
-        requires closed { IsSomeAnd (slot_of V.seen self.old).object (λ seen. (seen.write ≡ None) × HasNone page.0 seen) }
+        requires closed { IsSomeAnd (slot_of V.seen self.old).object
+            (λ seen. (seen.write ≡ None) × HasNone page.0 seen) }
         requires some { 0 < len }
-        ensures act { ActsAt (slot_of V.seen self.old) (slot_of V.seen self.new) (λ old new. Begins page len old result new) }
+        ensures act { ActsAt (slot_of V.seen self.old) (slot_of V.seen self.new)
+            (λ old new. Begins page len old result new) }
     {
         match &mut self.volume {
             Some(volume) => volume.begin(page, len),
@@ -46,7 +49,8 @@ impl<V: Volume> Place<V> {
             (λ seen. IsSomeAnd seen.write (λ write. write.came + length bytes.now ≤ write.len)) }
         requires some { 0 < length bytes.now }
         requires most { length bytes.now ≤ 65536 }
-        ensures act { ActsAt (slot_of V.seen self.old) (slot_of V.seen self.new) (λ old new. Appends bytes.now old result new) }
+        ensures act { ActsAt (slot_of V.seen self.old) (slot_of V.seen self.new)
+            (λ old new. Appends bytes.now old result new) }
     {
         match &mut self.volume {
             Some(volume) => volume.append(bytes),
@@ -57,7 +61,8 @@ impl<V: Volume> Place<V> {
     pub fn seal(&mut self) -> Result<(), Failed>
         requires whole { IsSomeAnd (slot_of V.seen self.old).object
             (λ seen. IsSomeAnd seen.write (λ write. write.came ≡ write.len)) }
-        ensures act { ActsAt (slot_of V.seen self.old) (slot_of V.seen self.new) (λ old new. Seals old result new) }
+        ensures act { ActsAt (slot_of V.seen self.old) (slot_of V.seen self.new)
+            (λ old new. Seals old result new) }
     {
         match &mut self.volume {
             Some(volume) => volume.seal(),
@@ -68,7 +73,8 @@ impl<V: Volume> Place<V> {
     pub fn get(&mut self, page: PageNo, off: u64, out: &mut [u8]) -> Result<(), Failed>
         requires there { IsSomeAnd (slot_of V.seen self.old).object
             (λ seen. (seen.write ≡ None) × HasBytes page.0 off (length out.old) seen) }
-        ensures act { ActsAt (slot_of V.seen self.old) (slot_of V.seen self.new) (λ old new. Gets page.0 off old result out.new new) }
+        ensures act { ActsAt (slot_of V.seen self.old) (slot_of V.seen self.new)
+            (λ old new. Gets page.0 off old result out.new new) }
         ensures len { length out.new ≡ length out.old }
     {
         match &mut self.volume {
@@ -78,8 +84,10 @@ impl<V: Volume> Place<V> {
     }
 
     pub fn remove(&mut self, page: PageNo) -> Result<(), Failed>
-        requires there { IsSomeAnd (slot_of V.seen self.old).object (λ seen. (seen.write ≡ None) × HasFile page.0 seen) }
-        ensures act { ActsAt (slot_of V.seen self.old) (slot_of V.seen self.new) (λ old new. Removes page.0 old result new) }
+        requires there { IsSomeAnd (slot_of V.seen self.old).object
+            (λ seen. (seen.write ≡ None) × HasFile page.0 seen) }
+        ensures act { ActsAt (slot_of V.seen self.old) (slot_of V.seen self.new)
+            (λ old new. Removes page.0 old result new) }
     {
         match &mut self.volume {
             Some(volume) => volume.remove(page),

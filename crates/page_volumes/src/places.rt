@@ -27,7 +27,8 @@ impl<V: Volume> Places<V> {
     pub fn new(alloc: Global, volumes: Vec<V>) -> Result<Places<V>, NoMemory>
         requires some { 0 < vec_len volumes }
         requires most { vec_len volumes ≤ MOST_VOLUMES }
-        ensures { IfOk result (λ places. of_places V.seen places ≡ new_slots (map V.seen volumes.items)) }
+        ensures { IfOk result
+            (λ places. of_places V.seen places ≡ new_slots (map V.seen volumes.items)) }
     {
         let mut items = Vec::with_capacity(alloc, volumes.len())?;
         for volume in volumes {
@@ -124,7 +125,8 @@ impl<V: Volume> Places<V> {
     // Drops the volume at a place, where it is retired and no file stands on it.
     pub fn settle(&mut self, k: usize, is_home: bool)
         requires within { k < vec_len self.old.items }
-        ensures { of_places V.seen self.new ≡ changed_at (settled is_home) k (of_places V.seen self.old) }
+        ensures { of_places V.seen self.new
+            ≡ changed_at (settled is_home) k (of_places V.seen self.old) }
     {
         self.items[k].settle(is_home);
     }
@@ -133,7 +135,8 @@ impl<V: Volume> Places<V> {
     pub fn let_go(&mut self, home: Option<Option<u32>>, files: &Files)
         requires { IfSome (option_and_then (λ home. home) home) (λ k. k < vec_len self.old.items) }
         ensures { of_places V.seen self.new
-            ≡ let_go files.now.filed (option_and_then (λ home. home) home) (of_places V.seen self.old) }
+            ≡ let_go files.now.filed (option_and_then (λ home. home) home)
+            (of_places V.seen self.old) }
     {
         if let Some(Some(k)) = home {
             self.settle(k as usize, files.is_home(k));
@@ -152,10 +155,12 @@ impl<V: Volume> Places<V> {
         }
     }
 
-    // The writer takes no writes any more where another volume does, and is dropped where it is due.
+    // The writer takes no writes any more where another volume does, and is dropped where it is
+    // due.
     pub fn retire_writer(&mut self, files: &Files)
         requires { takes_writes (of_places V.seen self.old) ≡ true }
-        ensures { of_places V.seen self.new ≡ writer_retired files.now.filed (of_places V.seen self.old) }
+        ensures { of_places V.seen self.new
+            ≡ writer_retired files.now.filed (of_places V.seen self.old) }
     {
         let k = self.writer();
         if self.is_one_of_several() {

@@ -50,7 +50,8 @@ fn slice_of(bytes: &Option<Octets>) -> Option<&[u8]>
 
 // The bytes of a page's file, where it has some.
 fn bytes_of(files: &[Stored], page: PageNo) -> Option<&[u8]>
-    ensures { option_copied result ≡ option_and_then (λ whole. whole) (file_of page.0 (map page_file files.now)) }
+    ensures { option_copied result
+        ≡ option_and_then (λ whole. whole) (file_of page.0 (map page_file files.now)) }
 {
     for file in files {
         if page.0 == file.page.0 {

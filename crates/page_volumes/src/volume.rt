@@ -27,7 +27,8 @@ pub trait Volume: Drop {
     /// Writes the next 1 to 65,536 bytes of the open write. After `Failed` it is closed, and the
     /// file is torn.
     fn append(&mut self, bytes: &[u8]) -> Result<(), Failed>
-        requires fits { IsSomeAnd (seen self.old).write (λ write. write.came + length bytes.now ≤ write.len) }
+        requires fits { IsSomeAnd (seen self.old).write
+            (λ write. write.came + length bytes.now ≤ write.len) }
         requires some { 0 < length bytes.now }
         requires most { length bytes.now ≤ 65536 }
         ensures act { Appends bytes.now (seen self.old) result (seen self.new) }

@@ -3,8 +3,9 @@ ghost use Rattle.page_files.specs.Files.{page_no, source_of, Agrees};
 ghost use Rattle.pages_tests.specs.Moves.{first_held, page_of_both, page_of_first};
 
 use crate::calls::fresh_files;
-use crate::compacting::{add_both, closes, finish_both, standing, start_both, start_first, told};
+use crate::compacting::{closes, standing, told};
 use crate::fixture::{Ended, Standing, job_ended, look, move_ended};
+use crate::moving::{add_both, finish_both, start_both, start_first};
 use crate::tell::{memory_disk, tell};
 use blob_words::{JobNo, PageNo, PieceNo};
 use item_shares::Shares;

@@ -1,14 +1,12 @@
 //! Tests of page files over disks of memory and over a folder.
 #![tactic(auto)]
 
-#[cfg(test)]
-mod calls;
+pub mod calls;
 #[cfg(test)]
 mod compacting;
 #[cfg(test)]
 mod empty_moves;
-#[cfg(test)]
-mod fixture;
+pub mod fixture;
 #[cfg(test)]
 mod jobs;
 #[cfg(test)]
@@ -17,6 +15,7 @@ mod long_page;
 mod many_pages;
 #[cfg(test)]
 mod many_pieces;
+pub mod moving;
 #[cfg(test)]
 mod reserves;
 #[cfg(test)]

@@ -1,7 +1,7 @@
 use Rattle.std.proofs.Common.{◌≤◌, ◌<◌, ◌^◌, ap, arith, subst, sym}
 use Rattle.page_files.specs.Files.{room, Files}
 use Rattle.pages_tests.proofs.Moves.{both_apart}
-use Rattle.pages_tests.proofs.compacting.start_both.Goals as goal
+use Rattle.pages_tests.proofs.moving.start_both.Goals as goal
 
 pub start_job-requires-clause-idle : goal.start_job-requires-clause-idle
 start_job-requires-clause-idle c = ap (λ (files : Files). files.job) c.requires.fresh

@@ -1,6 +1,6 @@
 use Rattle.page_files.specs.Ends.{scene}
 use Rattle.pages_tests.proofs.Moves.{both_counted, both_paged, both_there}
-use Rattle.pages_tests.proofs.compacting.finish_both.Goals as goal
+use Rattle.pages_tests.proofs.moving.finish_both.Goals as goal
 
 pub returns-clause-paged : goal.returns-clause-paged
 returns-clause-paged g c = both_paged c.args.files.now.limit c.args.slots.0 c.args.slots.1 c.args.job (scene _ _ _ _ 0) (scene _ _ _ _ 0) c.requires.started c.finish_job.result c.finish_job.ensures.ends
