@@ -1,5 +1,6 @@
 mod Latest
 mod RunCells
+mod PieceNumbers
 mod Living
 mod Reaching
 mod Lifted

@@ -2,6 +2,7 @@ pub mod Kept
 pub mod Keeps
 pub mod Runs
 pub mod Measured
+pub mod Steps
 pub mod Follows
 pub mod Chosen
 pub mod Reach

@@ -1,19 +1,25 @@
 //! What is kept of a history, the blobs with their content among it.
 ghost use Rattle.std.specs.Prelude.{◌≡◌, ℕ, ◌||◌, OnOk};
+ghost use Rattle.std.specs.List.{All};
 ghost use Rattle.session_script.specs.declared.event.Event.{Event};
 ghost use Rattle.answer_text.specs.declared.refusal.Refusal.{Refusal};
 ghost use Rattle.blob_model.specs.Session.{Session};
-ghost use Rattle.blob_model.specs.History.{History, start, refused, said};
+ghost use Rattle.blob_model.specs.History.{History, start, heard, refused, said};
+ghost use Rattle.blob_model.specs.Builds.{builds_after};
+ghost use Rattle.blob_model.specs.Pieces.{pieces_from};
 ghost use Rattle.blob_model.specs.Live.{is_rooted};
 ghost use Rattle.transcript_audit.specs.Keeps.{IsShort};
+ghost use Rattle.transcript_audit.specs.Steps.{GoesWell};
+ghost use Rattle.transcript_audit.specs.Measured.{IsMeasured, HasNumbers};
 ghost use Rattle.transcript_audit.specs.Follows.{Follows};
 
-use crate::builds::Build;
+use crate::builds::{Build, made_by};
 use crate::kept::Kept;
-use crate::pieces::Piece;
-use crate::readers::{OpenReader, is_read};
+use crate::pieces::{Piece, put_pieces};
+use crate::readers::{self, OpenReader, is_read};
 use answer_text::Answer;
 use blob_words::{BlobName, ItemList, Limits, NoMemory};
+use session_script::Event;
 use std::alloc::Global;
 
 /// What is kept of a history: the blobs with their content, their pieces, the open readers, and
@@ -49,8 +55,7 @@ impl Contents {
         ensures { OnOk result ((s : Session) (h : History) → Follows s h self.old
             → Follows s (said h answer.now) self.new) }
     {
-        self.kept.say(answer)?;
-        Ok(())
+        self.kept.say(answer)
     }
 
     /// After a refused line.
@@ -59,6 +64,45 @@ impl Contents {
             → Follows s h self.old → Follows s (refused h event why) self.new }
     {
         self.kept.refuse();
+    }
+
+    // The blob that a line makes, and its pieces.
+    fn put_made(&mut self, event: &Event, answer: &Answer) -> Result<(), NoMemory>
+        requires measured { IsMeasured self.old.builds event.now answer.now }
+        requires numbered { HasNumbers self.old.limits.page self.old.builds self.old.pieces
+            event.now answer.now }
+        ensures builds { OnOk result (self.new.builds
+            ≡ builds_after self.old.limits.page event.now answer.now self.old.builds) }
+        ensures pieces { OnOk result (self.old.pieces
+            ≡ pieces_from self.old.limits.page 0 self.old.builds
+            → self.new.pieces ≡ pieces_from self.old.limits.page 0 self.new.builds) }
+        ensures kept { self.new.kept ≡ self.old.kept }
+        ensures limits { self.new.limits ≡ self.old.limits }
+        ensures readers { self.new.readers ≡ self.old.readers }
+    {
+        let page = self.limits.page;
+        let made = made_by(self.alloc, page, event, answer, self.builds.as_slice())?;
+        if let Some(build) = made {
+            put_pieces(self.alloc, page, &build, &mut self.pieces)?;
+            self.builds.push(build)?;
+        }
+        Ok(())
+    }
+
+    /// After an accepted line with its first answer.
+    pub fn hear(&mut self, event: &Event, answer: &Answer) -> Result<(), NoMemory>
+        requires short { IsShort self.old.kept }
+        requires steps { All (GoesWell event.now answer.now) self.old.readers.items }
+        requires measured { IsMeasured self.old.builds event.now answer.now }
+        requires numbered { HasNumbers self.old.limits.page self.old.builds self.old.pieces
+            event.now answer.now }
+        ensures { OnOk result ((s : Session) (h : History) → Follows s h self.old
+            → Follows s (heard h event.now answer.now) self.new) }
+    {
+        let builds = self.builds.as_slice();
+        readers::hear(&self.kept, builds, event, answer, &mut self.readers)?;
+        self.kept.hear(event, answer)?;
+        self.put_made(event, answer)
     }
 
     /// Whether a renderer holds the blob, a URL names it or a reader reads it.

@@ -2,6 +2,7 @@
 #![tactic(auto)]
 
 pub mod builds;
+pub mod construct;
 pub mod contents;
 pub mod entries;
 pub mod handles;

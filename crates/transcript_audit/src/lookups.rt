@@ -1,5 +1,5 @@
 //! What is kept, looked up: each answer is that of the history.
-ghost use Rattle.std.specs.Prelude.{◌≡◌, ◌==◌, ◌&&◌, not};
+ghost use Rattle.std.specs.Prelude.{◌≡◌, ◌==◌, ◌&&◌, find, not};
 ghost use Rattle.std.specs.List.{list_any};
 ghost use Rattle.std.specs.Option.{option_copied};
 ghost use Rattle.blob_model.specs.History.{History};
@@ -8,17 +8,18 @@ ghost use Rattle.blob_model.specs.Recorded.{recorded};
 ghost use Rattle.blob_model.specs.Standing.{is_unfinished, is_done, is_broken, was_granted};
 ghost use Rattle.blob_model.specs.Transport.{arrivals, has_come};
 ghost use Rattle.blob_model.specs.Handles.{has_handle, is_held};
-ghost use Rattle.blob_model.specs.Entries.{is_named};
+ghost use Rattle.blob_model.specs.Entries.{is_named, resolved};
 ghost use Rattle.blob_model.specs.Jobs.{is_in_job};
-ghost use Rattle.transcript_audit.specs.Kept.{is_dead_in, holds_one};
+ghost use Rattle.transcript_audit.specs.Kept.{is_dead_in, holds_one, is_open_to};
 ghost use Rattle.transcript_audit.specs.Keeps.{Keeps};
 
 use crate::handles::Holds;
 use crate::kept::Kept;
 use crate::recorded::{self, FileState};
-use crate::renderers::{Dead, Renderer, is_spawned};
+use crate::entries::{Entry, before_fragment};
+use crate::renderers::{Dead, Renderer, is_spawned, origin_of};
 use crate::{entries, jobs, transport};
-use blob_words::{BlobName, FileName, RendererId};
+use blob_words::{BlobName, FileName, RendererId, UrlText};
 
 /// Whether a renderer was spawned and is not dead.
 fn is_alive_in(spawned: &[Renderer], dead: &Dead, number: u32) -> bool
@@ -40,6 +41,26 @@ fn is_held_in(spawned: &[Renderer], holds: &Holds, name: BlobName) -> bool
     spawned
         .iter()
         .any(|renderer| holds_one(renderer, holds, name))
+}
+
+fn is_open_to(spawned: &[Renderer], front: &[u8], origin: &[u8], entry: &Entry) -> bool
+    ensures { result ≡ is_open_to spawned.now front.now origin.now entry.now }
+{
+    entry.text.as_slice() == front && origin_of(spawned, entry.owner) == origin
+}
+
+fn resolved_in<'a>(
+    spawned: &[Renderer],
+    entries: &'a [Entry],
+    front: &[u8],
+    origin: &[u8],
+) -> Option<&'a Entry>
+    ensures { option_copied result
+        ≡ find (is_open_to spawned.now front.now origin.now) entries.now }
+{
+    entries
+        .iter()
+        .find(|entry| is_open_to(spawned, front, origin, entry))
 }
 
 impl Kept {
@@ -111,6 +132,16 @@ impl Kept {
         ensures { (h : History) → Keeps h self.now → result ≡ is_named h name }
     {
         entries::is_named(&self.entries, name)
+    }
+
+    /// The entry that a text resolves to for a renderer.
+    pub fn resolved(&self, renderer: RendererId, text: &UrlText) -> Option<&Entry>
+        ensures { (h : History) → Keeps h self.now
+            → option_copied result ≡ resolved h renderer.0 text.now }
+    {
+        let front = before_fragment(text.as_slice());
+        let origin = origin_of(self.spawned.as_slice(), renderer.0);
+        resolved_in(self.spawned.as_slice(), &self.entries, front, origin)
     }
 
     /// Whether the job in flight names the piece.
