@@ -6,3 +6,7 @@ mod Reaching
 mod Lifted
 mod Placing
 mod PlacesFound
+mod Using
+mod Forms
+mod Planning
+mod Slots

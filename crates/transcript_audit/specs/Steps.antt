@@ -1,7 +1,5 @@
 -- How a step of a reader changes the open readers. Own.
-use Rattle.std.specs.Prelude.{ℕ, ◌+◌, ◌<◌, ◌^◌, ⊤, List, length, map}
-use Rattle.session_script.specs.declared.event.Event.{Event}
-use Rattle.session_script.specs.declared.event.Event.TheVariants as events
+use Rattle.std.specs.Prelude.{ℕ, List, length, map}
 use Rattle.answer_text.specs.declared.answer.Answer.{Answer}
 use Rattle.answer_text.specs.declared.answer.Answer.TheVariants as answers
 use Rattle.blob_model.specs.Readers.{OpenReader, advanced, closed}
@@ -14,12 +12,3 @@ stepped number (answers.FileChanged reader name) before = closed number before
 stepped number (answers.PageFault reader file) before = closed number before
 stepped number (answers.HandleFailed reader slot) before = closed number before
 stepped number answer before = before
-
--- the reader's place stays a number of 64 bits
-abbrev pub StepsWell : ℕ → Answer → OpenReader → Type 0
-StepsWell number (answers.Given reader bytes) one = one.place + length bytes < 2 ^ 64
-StepsWell number answer one = ⊤
-
-abbrev pub GoesWell : Event → Answer → OpenReader → Type 0
-GoesWell (events.Step reader) answer one = StepsWell reader.0 answer one
-GoesWell event answer one = ⊤

@@ -2,8 +2,10 @@
 #![tactic(auto)]
 
 pub mod builds;
+pub mod claims;
 pub mod construct;
 pub mod contents;
+pub mod course;
 pub mod entries;
 pub mod handles;
 pub mod jobs;
