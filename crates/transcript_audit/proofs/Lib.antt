@@ -7,6 +7,3 @@ mod Lifted
 mod Placing
 mod PlacesFound
 mod Using
-mod Forms
-mod Planning
-mod Slots

@@ -1,6 +1,5 @@
 -- The pieces of one blob more.
-use Rattle.std.proofs.Common.{◌≡◌, ℕ, ◌+◌, List, [], ◌∷◌, ◌++◌, length, suc, refl, sym, ap, ◌∙◌, arith, append_assoc, append-nil, length-append, sum_by}
-use Rattle.std.proofs.lemmas.List.Sums.{sum_by-append}
+use Rattle.std.proofs.Common.{◌≡◌, ℕ, ◌+◌, List, [], ◌∷◌, ◌++◌, length, suc, refl, sym, ap, ◌∙◌, arith, append_assoc, append-nil, length-append}
 use Rattle.blob_model.specs.Builds.{Build}
 use Rattle.blob_model.specs.Pieces.{Piece, spans_of, numbered, pieces_from}
 
@@ -31,15 +30,3 @@ pieces_grow page builds pieces build same =
     ap (λ (list : List Piece). list ++ numbered build.name (length pieces) (spans_of page build)) same
     ∙ ap (λ (n : ℕ). pieces_from page 0 builds ++ numbered build.name n (spans_of page build)) count
     ∙ sym (pieces_more page 0 builds build)
-
-pub total_pieces : (page number : ℕ) (builds : List Build) → length (pieces_from page number builds) ≡ sum_by (λ (build : Build). length (spans_of page build)) builds
-total_pieces page number [] = refl
-total_pieces page number (first ∷ builds) =
-    let counts : Build → ℕ = λ (build : Build). length (spans_of page build) in
-    let front : List Piece = numbered first.name number (spans_of page first) in
-    let rest : List Piece = pieces_from page (number + length (spans_of page first)) builds in
-    let one : sum_by counts (first ∷ []) ≡ length (spans_of page first) = omega arith in
-    length-append front rest
-    ∙ ap (λ (n : ℕ). n + length rest) (length_numbered first.name number (spans_of page first) ∙ sym one)
-    ∙ ap (λ (n : ℕ). sum_by counts (first ∷ []) + n) (total_pieces page (number + length (spans_of page first)) builds)
-    ∙ sym (sum_by-append counts (first ∷ []) builds)

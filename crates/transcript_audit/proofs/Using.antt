@@ -7,11 +7,11 @@ use Rattle.std.proofs.lemmas.List.Sums.{fold-append}
 use Rattle.blob_model.specs.Session.{Session}
 use Rattle.blob_model.specs.History.{History}
 use Rattle.blob_model.specs.Builds.{Cell, filed, lent, Build, builds}
-use Rattle.blob_model.specs.Readers.{OpenReader}
+use Rattle.blob_model.specs.Readers.{OpenReader, reader_at}
 use Rattle.blob_model.specs.Chunk.{chunk}
 use Rattle.blob_model.specs.Pieces.{Piece, pieces, owns, piece_with}
 use Rattle.blob_model.specs.Pages.{Page, pages, is_memory, place}
-use Rattle.blob_model.specs.Victims.{used, used_by_cell, memory_piece}
+use Rattle.blob_model.specs.Victims.{used, used_by_cell, used_by_chunk, memory_piece}
 use Rattle.transcript_audit.specs.declared.contents.Contents.{Contents}
 use Rattle.transcript_audit.specs.declared.run.Source.{Source}
 use Rattle.transcript_audit.specs.Runs.{cell_at}
@@ -69,3 +69,12 @@ cells_same s h contents follows [] before = refl
 cells_same s h contents follows (cell ∷ cells) before =
     ap (λ (after : List ℕ). use_cells contents.kept.pages contents.builds contents.pieces after cells) (cell_same s h contents follows before cell)
     ∙ cells_same s h contents follows cells (used_by_cell s.limits.page h before cell)
+
+-- the chunk of an open reader
+pub chunk_uses : (s : Session) (h : History) (contents : Contents) (reader : OpenReader) (number : ℕ) (before : List ℕ) (cells : List Cell) → Follows s h contents
+    → Some reader ≡ reader_at s.limits.page h number → cells ≡ chunk s.limits h reader
+    → use_cells contents.kept.pages contents.builds contents.pieces before cells ≡ used_by_chunk s.limits h (reader_at s.limits.page h number) before
+chunk_uses s h contents reader number before cells follows at are =
+    ap (use_cells contents.kept.pages contents.builds contents.pieces before) are
+    ∙ cells_same s h contents follows (chunk s.limits h reader) before
+    ∙ ap (λ (found : Option OpenReader). used_by_chunk s.limits h found before) at

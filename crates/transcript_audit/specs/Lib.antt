@@ -10,5 +10,3 @@ pub mod Reach
 pub mod Placed
 pub mod Missing
 pub mod Uses
-pub mod Planned
-pub mod Slots

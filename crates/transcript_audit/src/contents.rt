@@ -78,7 +78,7 @@ impl Contents {
         ensures limits { self.new.limits ≡ self.old.limits }
         ensures version { self.new.version ≡ self.old.version }
         ensures sizes { self.new.sizes ≡ self.old.sizes }
-        ensures readers { self.new.readers ≡ self.old.readers }
+        ensures readers { self.new.readers.items ≡ self.old.readers.items }
     {
         let page = self.limits.page;
         let made = made_by(self.alloc, page, event, answer, self.builds.as_slice())?;
@@ -97,7 +97,8 @@ impl Contents {
         let builds = self.builds.as_slice();
         readers::hear(&self.kept, builds, event, answer, &mut self.readers)?;
         self.kept.hear(event, answer)?;
-        self.put_made(event, answer)
+        self.put_made(event, answer)?;
+        Ok(())
     }
 
     /// Whether a renderer holds the blob, a URL names it or a reader reads it.

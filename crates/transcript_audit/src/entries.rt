@@ -1,11 +1,11 @@
 //! Blob URLs.
-ghost use Rattle.std.specs.Prelude.{◌≡◌, ℕ, ◌==◌, ◌&&◌, not, filter, find, position, bytes_eq, take, drop, length, IfOk, OnOk};
+ghost use Rattle.std.specs.Prelude.{◌≡◌, ℕ, ◌==◌, ◌&&◌, not, filter, find, position, bytes_eq, OnOk};
 ghost use Rattle.std.specs.List.{list_any, list_all, enumerate_from};
 ghost use Rattle.std.specs.Option.{option_copied};
-ghost use Rattle.blob_model.specs.Entries.{entry_at, before_fragment, entries_after, is_name_digit, is_hyphen_place, is_name_byte, is_name_text, url_front, is_url_of};
+ghost use Rattle.blob_model.specs.Entries.{entry_at, before_fragment, entries_after, is_name_digit, is_hyphen_place, is_name_byte, is_name_text};
 
 use answer_text::Answer;
-use blob_words::{BlobName, NoMemory, Octets, UrlText};
+use blob_words::{BlobName, NoMemory, UrlText};
 use session_script::Event;
 use std::alloc::Global;
 use std::marker::Model;
@@ -163,34 +163,4 @@ pub fn is_name_text(text: &[u8]) -> bool
         return false;
     }
     has_name_bytes(text)
-}
-
-/// Whether the text begins so, and the text of a name follows.
-#[tactic(auto, using(crate::proofs::Forms::short_form))]
-fn has_form(front: &[u8], text: &[u8]) -> bool
-    ensures { result ≡ (bytes_eq (take (length front.now) text.now) front.now
-        && is_name_text (drop (length front.now) text.now)) }
-{
-    if text.len() < front.len() {
-        return false;
-    }
-    is_same(&text[..front.len()], front) && is_name_text(&text[front.len()..])
-}
-
-/// What a blob URL of this origin begins with.
-fn url_front(alloc: Global, origin: &[u8]) -> Result<Octets, NoMemory>
-    ensures { IfOk result (λ front. front ≡ url_front origin.now) }
-{
-    let mut front = Octets::from_slice(alloc, b"blob:")?;
-    front.extend_from_slice(origin)?;
-    front.extend_from_slice(b"/")?;
-    Ok(front)
-}
-
-/// Whether the text is a blob URL of this origin: `blob:`, the origin, `/` and the text of a name.
-pub fn is_url_of(alloc: Global, origin: &[u8], text: &[u8]) -> Result<bool, NoMemory>
-    ensures { IfOk result (λ is_one. is_one ≡ is_url_of origin.now text.now) }
-{
-    let front = url_front(alloc, origin)?;
-    Ok(has_form(front.as_slice(), text))
 }

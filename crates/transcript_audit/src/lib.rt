@@ -2,8 +2,6 @@
 #![tactic(auto)]
 
 pub mod builds;
-pub mod claims;
-pub mod construct;
 pub mod contents;
 pub mod course;
 pub mod entries;

@@ -1,27 +1,22 @@
 //! Why a line is refused.
-ghost use Rattle.std.specs.Prelude.{◌≡◌, ℕ, List, Some, is_some, IfOk};
+ghost use Rattle.std.specs.Prelude.{◌≡◌, ℕ, List, IfOk};
 ghost use Rattle.session_script.specs.declared.event.Event.TheVariants as events;
 ghost use Rattle.blob_model.specs.Session.{Session};
 ghost use Rattle.blob_model.specs.History.{History};
 ghost use Rattle.blob_model.specs.Choice.{first_that};
-ghost use Rattle.blob_model.specs.Refusals.{refusal, reader_refusals, segment_refusals};
-ghost use Rattle.blob_model.specs.Renderers.{origin_of};
-ghost use Rattle.blob_model.specs.Entries.{entries, entry_at, is_url_of};
+ghost use Rattle.blob_model.specs.Refusals.{refusal, reader_refusals};
 ghost use Rattle.transcript_audit.specs.Follows.{Follows};
 ghost use Rattle.transcript_audit.specs.Keeps.{Keeps};
 ghost use Rattle.transcript_audit.specs.Kept.{is_flying};
 
-use crate::builds::Build;
 use crate::contents::Contents;
-use crate::entries::{entry_at, is_url_of};
 use crate::kept::Kept;
-use crate::parts::{few, few_bytes};
+use crate::parts::few_bytes;
 use crate::recorded::{is_known, last_stamp};
-use crate::renderers::{is_spawned, origin_of};
-use crate::transport::spans;
+use crate::renderers::is_spawned;
 use answer_text::Refusal;
 use blob_words::{
-    BlobName, Counted, FileName, JobNo, NoMemory, Octets, ReaderId, RendererId, UrlText,
+    BlobName, Counted, FileName, JobNo, NoMemory, ReaderId, RendererId, UrlText,
 };
 
 /// How many renderers a session may have.
@@ -29,9 +24,6 @@ const MOST_RENDERERS: usize = 1_024;
 
 /// How many readers may be open.
 const MOST_READERS: usize = 4_096;
-
-/// How many URL entries may stand.
-const MOST_URLS: usize = 16_384;
 
 /// How many files a session may name.
 const MOST_FILES: usize = 16_384;
@@ -242,103 +234,5 @@ impl Contents {
             return Some(Refusal::NoReader(q));
         }
         None
-    }
-
-    // Of the bytes that a `data` line brings for this blob.
-    fn part_refusal(
-        &self,
-        r: RendererId,
-        b: BlobName,
-        build: &Build,
-        segment: u32,
-        len: usize,
-    ) -> Result<Option<Refusal>, NoMemory>
-        ensures { IfOk result (λ why. (s : Session) (h : History) → Follows s h self.now
-            → why ≡ first_that (segment_refusals s h r b segment len (Some build.now))) }
-    {
-        let sends = self.is_sending(r.0, build)?;
-        if !sends {
-            return Ok(Some(Refusal::NoTransport(b)));
-        }
-        let found = spans(self.alloc, &self.limits, build)?;
-        let place = segment as usize;
-        if place >= found.len() {
-            return Ok(Some(Refusal::BadSegment(few(found.len())?)));
-        }
-        if self.kept.has_come(b, segment) {
-            return Ok(Some(Refusal::SegmentTaken(segment)));
-        }
-        let (_, wanted) = found.as_slice()[place];
-        if len as u64 != wanted {
-            return Ok(Some(Refusal::SegmentLength(wanted)));
-        }
-        Ok(None)
-    }
-
-    /// Of a `data` line.
-    pub fn segment_refusal(
-        &self,
-        r: RendererId,
-        b: BlobName,
-        segment: u32,
-        bytes: &Octets,
-    ) -> Result<Option<Refusal>, NoMemory>
-        ensures { IfOk result (λ why. (s : Session) (h : History) → Follows s h self.now
-            → why ≡ refusal s h (events.Segment r b segment bytes.now)) }
-    {
-        if !self.kept.is_alive(r) {
-            return Ok(Some(Refusal::NoRenderer(r)));
-        }
-        match self.build(b) {
-            None => Ok(Some(Refusal::NoTransport(b))),
-            Some(build) => self.part_refusal(r, b, build, segment, bytes.len()),
-        }
-    }
-
-    /// Of a `url` line.
-    pub fn url_refusal(
-        &self,
-        r: RendererId,
-        b: BlobName,
-        text: &UrlText,
-    ) -> Result<Option<Refusal>, NoMemory>
-        ensures { IfOk result (λ why. (s : Session) (h : History) → Follows s h self.now
-            → why ≡ refusal s h (events.Url r b text.now)) }
-    {
-        if !self.kept.is_alive(r) {
-            return Ok(Some(Refusal::NoRenderer(r)));
-        }
-        if !self.kept.has_handle(r, b) {
-            return Ok(Some(Refusal::NoHandle(r, b)));
-        }
-        let has_form = self.has_url_form(r, text)?;
-        if !has_form {
-            return Ok(Some(Refusal::UrlForm));
-        }
-        if self.is_registered(text) {
-            return Ok(Some(Refusal::UrlTaken));
-        }
-        if self.kept.entries.len() >= MOST_URLS {
-            return Ok(Some(Refusal::TooMany(Counted::Urls)));
-        }
-        Ok(None)
-    }
-
-    // Whether the text is a blob URL of the renderer's origin.
-    fn has_url_form(&self, r: RendererId, text: &UrlText) -> Result<bool, NoMemory>
-        ensures { IfOk result (λ has_form. (s : Session) (h : History) → Follows s h self.now
-            → has_form ≡ is_url_of (origin_of h r.0) text.now) }
-    {
-        let origin = origin_of(self.kept.spawned.as_slice(), r.0);
-        let has_form = is_url_of(self.alloc, origin, text.as_slice())?;
-        Ok(has_form)
-    }
-
-    // Whether an entry has the text.
-    fn is_registered(&self, text: &UrlText) -> bool
-        ensures { (s : Session) (h : History) → Follows s h self.now
-            → result ≡ is_some (entry_at (entries h) text.now) }
-    {
-        entry_at(&self.kept.entries, text.as_slice()).is_some()
     }
 }

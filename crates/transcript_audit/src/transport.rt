@@ -1,20 +1,13 @@
 //! What was sent for a blob.
 ghost use Rattle.std.specs.Prelude.{◌≡◌, ℕ, ◌==◌, ◌<◌, ◌^◌, not, filter, length, IfOk, OnOk};
 ghost use Rattle.std.specs.List.{list_any, range_with_len};
-ghost use Rattle.blob_model.specs.Session.{Session};
-ghost use Rattle.blob_model.specs.History.{History};
-ghost use Rattle.blob_model.specs.Transport.{arrivals_after, has_come, spans, missing, has_all};
-ghost use Rattle.blob_model.specs.Standing.{is_granted};
-ghost use Rattle.blob_model.specs.Refusals.{is_sending};
-ghost use Rattle.transcript_audit.specs.Follows.{Follows};
+ghost use Rattle.blob_model.specs.Transport.{arrivals_after, has_come, spans};
 ghost use Rattle.transcript_audit.specs.Kept.{arrivals_in, is_arrival};
 ghost use Rattle.transcript_audit.specs.Missing.{missing_in};
 
 use crate::builds::Build;
-use crate::contents::Contents;
 use crate::parts::{few_bytes, own_bytes, own_lengths};
 use crate::pieces::{cut_spans, piece_spans};
-use crate::standing::is_granted;
 use blob_words::{BlobName, ItemList, Limits, NoMemory, Octets, Plan};
 use session_script::Event;
 use std::alloc::Global;
@@ -158,46 +151,4 @@ pub fn has_all(
 {
     let found = missing(alloc, limits, brought, build)?;
     Ok(found.len() == 0)
-}
-
-impl Contents {
-    /// The segments of the blob that did not come.
-    pub fn missing(&self, build: &Build) -> Result<ItemList<u64>, NoMemory>
-        ensures { IfOk result (λ found. (s : Session) (h : History) → Follows s h self.now
-            → found ≡ missing s.limits h build.now) }
-    {
-        let brought = self.kept.brought.as_slice();
-        let found = missing(self.alloc, &self.limits, brought, build)?;
-        Ok(found)
-    }
-
-    /// Whether none is missing.
-    pub fn has_all(&self, build: &Build) -> Result<bool, NoMemory>
-        ensures { IfOk result (λ all. (s : Session) (h : History) → Follows s h self.now
-            → all ≡ has_all s.limits h build.now) }
-    {
-        let found = self.missing(build)?;
-        Ok(found.len() == 0)
-    }
-
-    /// Whether the blob's own bytes have their room.
-    pub fn is_granted(&self, build: &Build) -> bool
-        ensures { (s : Session) (h : History) → Follows s h self.now
-            → result ≡ is_granted h build.now }
-    {
-        is_granted(&self.kept.granted, build.name, build.plan)
-    }
-
-    /// Whether the renderer sends bytes of the blob: it built it, and the blob is unfinished,
-    /// granted and misses a segment.
-    pub fn is_sending(&self, renderer: u32, build: &Build) -> Result<bool, NoMemory>
-        ensures { IfOk result (λ sends. (s : Session) (h : History) → Follows s h self.now
-            → sends ≡ is_sending s h renderer build.now) }
-    {
-        let found = self.missing(build)?;
-        let is_unfinished = self.kept.is_unfinished(build.name);
-        let is_granted = self.is_granted(build);
-        let is_own = build.builder == renderer;
-        Ok(is_unfinished && is_granted && is_own && found.len() > 0)
-    }
 }
