@@ -56,7 +56,8 @@ impl Contents {
         ensures { OnOk result ((s : Session) (h : History) → Follows s h self.old
             → Follows s (said h answer.now) self.new) }
     {
-        self.kept.say(answer)
+        self.kept.say(answer)?;
+        Ok(())
     }
 
     /// After a refused line.

@@ -20,11 +20,11 @@ ghost use Rattle.transcript_audit.specs.Keeps.{Keeps};
 
 use crate::builds::{Build, build_in, size_in};
 use crate::contents::Contents;
+use crate::entries::{Entry, before_fragment};
 use crate::handles::Holds;
 use crate::kept::Kept;
-use crate::recorded::{self, FileState};
-use crate::entries::{Entry, before_fragment};
 use crate::readers::{OpenReader, reader_at};
+use crate::recorded::{self, FileState};
 use crate::renderers::{Dead, Renderer, is_spawned, origin_of};
 use crate::{entries, jobs, transport};
 use blob_words::{BlobName, FileName, RendererId, UrlText};

@@ -15,9 +15,7 @@ use crate::parts::few_bytes;
 use crate::recorded::{is_known, last_stamp};
 use crate::renderers::is_spawned;
 use answer_text::Refusal;
-use blob_words::{
-    BlobName, Counted, FileName, JobNo, NoMemory, ReaderId, RendererId, UrlText,
-};
+use blob_words::{BlobName, Counted, FileName, JobNo, NoMemory, ReaderId, RendererId, UrlText};
 
 /// How many renderers a session may have.
 const MOST_RENDERERS: usize = 1_024;

@@ -34,9 +34,9 @@ returns c = λ s h follows.
       outside_is = ap outside_of c.in_ok-put_made.ensures.sizes ∙ follows.outside_is;
       builds_are = blobs;
       pieces_are = c.in_ok-put_made.ensures.pieces before
-        ∙ ap (λ (size : ℕ). pieces_from size 0 new.builds) page
-        ∙ ap (pieces_from s.limits.page 0) blobs;
+          ∙ ap (λ (size : ℕ). pieces_from size 0 new.builds) page
+          ∙ ap (pieces_from s.limits.page 0) blobs;
       readers_are = c.in_ok-put_made.ensures.readers
-        ∙ c.in_ok-hear.ensures s.limits.page h follows.keeps (c.as_slice-builds.ensures ∙ follows.builds_are)
-        ∙ ap (readers_after s.limits.page h event answer) follows.readers_are;
+          ∙ c.in_ok-hear.ensures s.limits.page h follows.keeps (c.as_slice-builds.ensures ∙ follows.builds_are)
+          ∙ ap (readers_after s.limits.page h event answer) follows.readers_are;
     }

@@ -16,7 +16,7 @@ pub returns : goal.returns
 returns c = λ s h follows. record {
   follows = c.in_ok-say.ensures s h follows.follows;
   uses_are = c.in_ok-use_done.ensures
-    ∙ ap (λ (list : List Piece). use_done list c.args.answer.now c.args.self.now.uses.items) (c.as_slice.ensures ∙ follows.follows.pieces_are)
-    ∙ done_same s.limits.page h c.args.answer.now c.args.self.now.uses.items
-    ∙ ap (used_by_answer s.limits.page h c.args.answer.now) follows.uses_are;
+      ∙ ap (λ (list : List Piece). use_done list c.args.answer.now c.args.self.now.uses.items) (c.as_slice.ensures ∙ follows.follows.pieces_are)
+      ∙ done_same s.limits.page h c.args.answer.now c.args.self.now.uses.items
+      ∙ ap (used_by_answer s.limits.page h c.args.answer.now) follows.uses_are;
 }
