@@ -1,5 +1,5 @@
 -- When what is kept agrees with a history, notion by notion. Own.
-use Rattle.std.specs.Prelude.{ℕ, ◌≡◌, ◌<◌, ◌^◌, List}
+use Rattle.std.specs.Prelude.{ℕ, ◌≡◌, List}
 use Rattle.answer_text.specs.declared.answer.Answer.{Answer}
 use Rattle.blob_model.specs.History.{History}
 use Rattle.blob_model.specs.Renderers.{spawned, is_dead}
@@ -35,12 +35,6 @@ pub record Keeps (h : History) (kept : Kept) : Type 0 where
   pub turned_off_is : kept.turned_off ≡ turned_off h
   pub data_blob_is : kept.data_blob ≡ data_blob h
   pub unstored_is : kept.unstored ≡ unstored h
-
--- the numbers that count are short of what 64 bits hold
-pub record IsShort (kept : Kept) : Type 0 where
-  pub pages : kept.next_page < 2 ^ 63
-  pub jobs : kept.next_job < 2 ^ 63
-  pub handles : (holder name : ℕ) → count_in kept.holds holder name < 2 ^ 63
 
 -- what an answer alone changes, and that the rest stays
 pub record Takes (answer : Answer) (old new : Kept) : Type 0 where

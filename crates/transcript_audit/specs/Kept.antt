@@ -1,5 +1,5 @@
 -- What is kept of a history, and the notions of it that are looked up in what is kept. Own.
-use Rattle.std.specs.Prelude.{ℕ, ◌==◌, ◌||◌, ◌&&◌, Bool, false, List, Option, find, reverse, map, filter, bytes_eq, nat_lt, is_some, option_and_then}
+use Rattle.std.specs.Prelude.{ℕ, ◌==◌, ◌||◌, ◌&&◌, Bool, false, List, [], Option, find, reverse, map, filter, bytes_eq, nat_lt, is_some, option_and_then}
 use Rattle.std.specs.Map.{lookup}
 use Rattle.std.specs.Ordering.{nat_cmp}
 use Rattle.std.specs.BTreeMap.{is_at}
@@ -8,6 +8,7 @@ use Rattle.std.specs.Option.{option_map, option_map_or}
 use Rattle.blob_words.specs.declared.status.Status.{Status}
 use Rattle.blob_model.specs.Recorded.{FileState}
 use Rattle.blob_model.specs.Renderers.{Renderer}
+use Rattle.blob_model.specs.Entries.{Entry}
 use Rattle.blob_model.specs.Transport.{Arrival}
 use Rattle.blob_model.specs.Jobs.{Job}
 
@@ -89,3 +90,11 @@ arrivals_in all name = map (λ (one : Brought). one.arrival) (filter (λ (one : 
 -- whether the job in flight has this number
 abbrev pub is_flying : Option Job → ℕ → Bool
 is_flying job number = option_map_or (λ (flying : Job). flying.number == number) job false
+
+-- the origin of the renderer
+abbrev pub origin_in : List Renderer → ℕ → List ℕ
+origin_in spawned number = option_map_or (λ (renderer : Renderer). renderer.origin) (find (λ (renderer : Renderer). renderer.number == number) spawned) []
+
+-- whether the entry has this text, and an owner of this origin
+abbrev pub is_open_to : List Renderer → List ℕ → List ℕ → Entry → Bool
+is_open_to spawned front origin entry = bytes_eq entry.text front && bytes_eq (origin_in spawned entry.owner) origin

@@ -1,9 +1,12 @@
 pub mod Kept
 pub mod Keeps
 pub mod Runs
-pub mod Measured
+pub mod Steps
+pub mod Silent
 pub mod Follows
+pub mod FollowsCourse
 pub mod Chosen
 pub mod Reach
 pub mod Placed
 pub mod Missing
+pub mod Uses

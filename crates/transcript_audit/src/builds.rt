@@ -1,5 +1,5 @@
 //! The blobs of a session, each with what was named when it was built.
-ghost use Rattle.std.specs.Prelude.{◌≡◌, ℕ, ◌+◌, ◌*◌, ◌<◌, ◌≤◌, ◌^◌, ◌++◌, true, length, map, is_some, IfOk, OnOk};
+ghost use Rattle.std.specs.Prelude.{◌≡◌, ℕ, ◌+◌, ◌*◌, ◌<◌, ◌≤◌, ◌^◌, ◌++◌, length, map, IfOk, OnOk};
 ghost use Rattle.std.specs.List.{range_with_len};
 ghost use Rattle.std.specs.Option.{option_copied, option_map_or, option_to_list};
 ghost use Rattle.slice_rule.specs.Kind.{kept_type};
@@ -7,7 +7,6 @@ ghost use Rattle.blob_model.specs.Parts.{part_length, parts_length};
 ghost use Rattle.blob_model.specs.Builds.{build_in, size, size_in, cells_of, part_weight, parts_weight, plan_told, built, slice_parts, builds_after};
 ghost use Rattle.transcript_audit.specs.Runs.{cell_at, cells_of_runs, part_cells, own_end};
 ghost use Rattle.transcript_audit.specs.declared.run.Source.TheVariants as kinds;
-ghost use Rattle.transcript_audit.specs.Measured.{IsMeasured};
 
 use crate::parts::{part_length, parts_length};
 use crate::run::{Run, Source};
@@ -18,6 +17,9 @@ use session_script::{Event, Part, Parts};
 use slice_rule::{normal_type, slice_range};
 use std::alloc::Global;
 use std::marker::Model;
+
+/// The greatest size that is kept; one above is want of memory. The model's sizes are below.
+const MOST: u128 = 1 << 62;
 
 /// A blob: its name, its builder, the content type that is kept, its parts, the plan of its own
 /// bytes (none where the blob broke at its own line), its weight, and its content.
@@ -254,11 +256,13 @@ pub fn slice_parts(
     start: Option<i64>,
     end: Option<i64>,
 ) -> Result<Parts, NoMemory>
-    requires { size_in builds.now source < 2 ^ 63 }
-    ensures value { IfOk result (λ parts. parts ≡ slice_parts builds.now source start end) }
-    ensures measured { IfOk result (λ parts. parts_length parts < 2 ^ 63) }
+    ensures { IfOk result (λ parts. parts ≡ slice_parts builds.now source start end) }
 {
-    let (off, len) = slice_range(size_in(builds, source) as u64, start, end);
+    let size = size_in(builds, source);
+    if size > MOST {
+        return Err(NoMemory);
+    }
+    let (off, len) = slice_range(size as u64, start, end);
     let mut parts = ItemList::new(alloc);
     parts.push(Part::BlobRange {
         b: source,
@@ -279,8 +283,7 @@ fn built(
     parts: Parts,
     plan: Option<Plan>,
 ) -> Result<Build, NoMemory>
-    requires page { 0 < page }
-    requires measured { is_some plan ≡ true → parts_length parts < 2 ^ 63 }
+    requires { 0 < page }
     ensures { IfOk result (λ build. build
         ≡ built page builds.now builder name kind.now parts plan) }
 {
@@ -296,6 +299,9 @@ fn built(
             runs: ItemList::new(alloc),
         }),
         Some(plan) => {
+            if parts_length(parts.as_slice()) > MOST {
+                return Err(NoMemory);
+            }
             let weight = parts_weight(page, builds, parts.as_slice());
             let runs = runs_of(alloc, builds, name, parts.as_slice())?;
             Ok(Build {
@@ -319,8 +325,7 @@ pub fn made_by(
     answer: &Answer,
     builds: &[Build],
 ) -> Result<Option<Build>, NoMemory>
-    requires page { 0 < page }
-    requires measured { IsMeasured builds.now event.now answer.now }
+    requires { 0 < page }
     ensures { IfOk result (λ made. builds_after page event.now answer.now builds.now
         ≡ builds.now ++ option_to_list made) }
 {

@@ -4,6 +4,7 @@ ghost use Rattle.std.specs.Option.{option_copied};
 ghost use Rattle.blob_model.specs.Handles.{count_after};
 ghost use Rattle.transcript_audit.specs.Kept.{count_in, is_hold};
 
+use crate::pages::one_more;
 use blob_words::{BlobName, NoMemory};
 use session_script::Event;
 use std::alloc::Global;
@@ -109,7 +110,6 @@ impl Holds {
     /// The builder holds its blob once, a `pass` line adds one, a `drop` line takes one, and a dead
     /// renderer holds nothing.
     pub fn hear(&mut self, event: &Event) -> Result<(), NoMemory>
-        requires { (holder name : ℕ) → count_in self.old holder name < 2 ^ 63 }
         ensures { OnOk result ((holder name : ℕ) → count_in self.new holder name
             ≡ count_after event.now holder name (count_in self.old holder name)) }
     {
@@ -117,8 +117,8 @@ impl Holds {
             Event::Build { r, b, .. } => self.set(r.0, *b, 1),
             Event::Slice { r, b, .. } => self.set(r.0, *b, 1),
             Event::Pass { to, b, .. } => {
-                let count = self.count(to.0, *b);
-                self.set(to.0, *b, count + 1)
+                let count = one_more(self.count(to.0, *b))?;
+                self.set(to.0, *b, count)
             }
             Event::Drop { r, b } => {
                 let count = self.count(r.0, *b);

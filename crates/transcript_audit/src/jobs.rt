@@ -4,7 +4,7 @@ ghost use Rattle.std.specs.List.{list_any};
 ghost use Rattle.std.specs.Option.{option_map_or};
 ghost use Rattle.blob_model.specs.Jobs.{without_job, in_flight_after, next_job_after, turns_off, data_blob_of, unstored_after};
 
-use crate::pages::numbers;
+use crate::pages::{numbers, one_more};
 use answer_text::Answer;
 use blob_words::{BlobName, ItemList, NoMemory};
 use session_script::Event;
@@ -95,13 +95,12 @@ pub fn is_in_job(job: &Option<Job>, number: u32) -> bool
 }
 
 /// Jobs of both kinds are numbered together.
-pub fn next_job_after(answer: &Answer, before: u64) -> u64
-    requires { before < 2 ^ 63 }
-    ensures { result ≡ next_job_after answer.now before }
+pub fn next_job_after(answer: &Answer, before: u64) -> Result<u64, NoMemory>
+    ensures { IfOk result (λ next. next ≡ next_job_after answer.now before) }
 {
     match answer {
-        Answer::Job(..) | Answer::Compacting(..) => before + 1,
-        _ => before,
+        Answer::Job(..) | Answer::Compacting(..) => one_more(before),
+        _ => Ok(before),
     }
 }
 

@@ -3,7 +3,7 @@ ghost use Rattle.std.specs.Prelude.{OnOk};
 ghost use Rattle.blob_model.specs.History.{History, start, heard, refused, said};
 ghost use Rattle.session_script.specs.declared.event.Event.{Event};
 ghost use Rattle.answer_text.specs.declared.refusal.Refusal.{Refusal};
-ghost use Rattle.transcript_audit.specs.Keeps.{Keeps, IsShort, Takes};
+ghost use Rattle.transcript_audit.specs.Keeps.{Keeps, Takes};
 
 use crate::entries::{self, Entry};
 use crate::handles::Holds;
@@ -74,7 +74,6 @@ impl Kept {
 
     // What an answer alone changes.
     fn take(&mut self, answer: &Answer) -> Result<(), NoMemory>
-        requires short { IsShort self.old }
         ensures { OnOk result (Takes answer.now self.old self.new) }
     {
         self.endings.hear(answer)?;
@@ -83,14 +82,13 @@ impl Kept {
         asked_after(answer, &mut self.asked)?;
         let before = self.job.take();
         self.job = in_flight_after(self.alloc, answer, before)?;
-        self.next_page = next_page_after(answer, self.next_page);
-        self.next_job = next_job_after(answer, self.next_job);
+        self.next_page = next_page_after(answer, self.next_page)?;
+        self.next_job = next_job_after(answer, self.next_job)?;
         Ok(())
     }
 
     /// After a further answer.
     pub fn say(&mut self, answer: &Answer) -> Result<(), NoMemory>
-        requires short { IsShort self.old }
         ensures { OnOk result ((h : History) → Keeps h self.old
             → Keeps (said h answer.now) self.new) }
     {
@@ -101,7 +99,6 @@ impl Kept {
 
     /// After an accepted line with its first answer.
     pub fn hear(&mut self, event: &Event, answer: &Answer) -> Result<(), NoMemory>
-        requires short { IsShort self.old }
         ensures { OnOk result ((h : History) → Keeps h self.old
             → Keeps (heard h event.now answer.now) self.new) }
     {

@@ -3,6 +3,7 @@
 
 pub mod builds;
 pub mod contents;
+pub mod course;
 pub mod entries;
 pub mod handles;
 pub mod jobs;

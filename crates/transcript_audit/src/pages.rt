@@ -70,10 +70,19 @@ pub fn pages_after(
     }
 }
 
+/// One more; a count that 64 bits don't hold is want of memory.
+pub fn one_more(count: u64) -> Result<u64, NoMemory>
+    ensures { IfOk result (λ more. more ≡ count + 1) }
+{
+    if count == u64::MAX {
+        return Err(NoMemory);
+    }
+    Ok(count + 1)
+}
+
 /// Each write takes a page number, one that fails too.
-pub fn next_page_after(answer: &Answer, before: u64) -> u64
-    requires { before < 2 ^ 63 }
-    ensures { result ≡ next_page_after answer.now before }
+pub fn next_page_after(answer: &Answer, before: u64) -> Result<u64, NoMemory>
+    ensures { IfOk result (λ next. next ≡ next_page_after answer.now before) }
 {
     match answer {
         Answer::Stored(..)
@@ -81,8 +90,8 @@ pub fn next_page_after(answer: &Answer, before: u64) -> u64
         | Answer::Paged(..)
         | Answer::PageFailed(..)
         | Answer::Moved(..)
-        | Answer::MoveFailed(..) => before + 1,
-        _ => before,
+        | Answer::MoveFailed(..) => one_more(before),
+        _ => Ok(before),
     }
 }
 

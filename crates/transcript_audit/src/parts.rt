@@ -6,6 +6,36 @@ use blob_words::{BlobName, ItemList, NoMemory};
 use session_script::Part;
 use std::alloc::Global;
 
+/// A number of bytes; one that 64 bits don't hold is want of memory.
+pub fn few_bytes(count: u128) -> Result<u64, NoMemory>
+    ensures { IfOk result (λ few. few ≡ count) }
+{
+    if count > u128::from(u64::MAX) {
+        return Err(NoMemory);
+    }
+    Ok(count as u64)
+}
+
+/// The sum of two numbers; one that 128 bits don't hold is want of memory.
+pub fn add(one: u128, other: u128) -> Result<u128, NoMemory>
+    ensures { IfOk result (λ both. both ≡ one + other) }
+{
+    if other > u128::MAX - one {
+        return Err(NoMemory);
+    }
+    Ok(one + other)
+}
+
+/// A count of things; one that 32 bits don't hold is want of memory.
+pub fn few(count: usize) -> Result<u32, NoMemory>
+    ensures { IfOk result (λ few. few ≡ count) }
+{
+    if count as u64 > u64::from(u32::MAX) {
+        return Err(NoMemory);
+    }
+    Ok(count as u32)
+}
+
 /// The number of bytes of a part.
 pub fn part_length(part: &Part) -> u64
     ensures { result ≡ part_length part.now }

@@ -3,11 +3,10 @@ ghost use Rattle.std.specs.Prelude.{◌≡◌, ℕ, ◌+◌, ◌*◌, ◌==◌, 
 ghost use Rattle.std.specs.Option.{option_copied};
 ghost use Rattle.transport_plan.specs.Spans.{cut_spans, piece_spans, span_at};
 ghost use Rattle.blob_model.specs.Pieces.{numbered, length_in, spans_of};
-ghost use Rattle.blob_model.specs.Parts.{own_bytes};
 ghost use Rattle.blob_model.specs.Tally.{bytes_of};
 
 use crate::builds::Build;
-use crate::parts::own_lengths;
+use crate::parts::{few_bytes, own_bytes, own_lengths};
 use blob_words::{BlobName, ItemList, NoMemory};
 use std::alloc::Global;
 use std::marker::Model;
@@ -112,33 +111,35 @@ pub fn numbered(
 
 /// Where the pieces of a blob stand; one that broke at its own line has none.
 pub fn spans_of(alloc: Global, page: u64, build: &Build) -> Result<ItemList<(u64, u64)>, NoMemory>
-    requires page { 0 < page }
-    requires fits { own_bytes build.now.parts < 2 ^ 64 }
+    requires { 0 < page }
     ensures { IfOk result (λ found. found ≡ spans_of page build.now) }
 {
     match build.plan {
         None => Ok(ItemList::new(alloc)),
         Some(_) => {
+            few_bytes(own_bytes(build.parts.as_slice()))?;
             let lengths = own_lengths(alloc, build.parts.as_slice())?;
             piece_spans(alloc, page, lengths.as_slice())
         }
     }
 }
 
-/// Puts the pieces of the next blob behind those of the others.
+/// Puts the pieces of the next blob behind those of the others; numbers that 32 bits don't hold are
+/// want of memory.
 pub fn put_pieces(
     alloc: Global,
     page: u64,
     build: &Build,
     pieces: &mut ItemList<Piece>,
 ) -> Result<(), NoMemory>
-    requires page { 0 < page }
-    requires fits { own_bytes build.now.parts < 2 ^ 64 }
-    requires few { length pieces.old + length (spans_of page build.now) < 2 ^ 32 }
+    requires { 0 < page }
     ensures { OnOk result (pieces.new ≡ pieces.old
         ++ numbered build.now.name (length pieces.old) (spans_of page build.now)) }
 {
     let spans = spans_of(alloc, page, build)?;
+    if pieces.len() as u128 + spans.len() as u128 > u128::from(u32::MAX) {
+        return Err(NoMemory);
+    }
     let number = pieces.len() as u32;
     numbered(build.name, number, spans.as_slice(), pieces)?;
     Ok(())

@@ -1,20 +1,27 @@
-//! Why a line is refused, of the lines that ask for no blob's content and no reader.
-ghost use Rattle.std.specs.Prelude.{◌≡◌, ℕ, List};
+//! Why a line is refused.
+ghost use Rattle.std.specs.Prelude.{◌≡◌, ℕ, List, IfOk};
 ghost use Rattle.session_script.specs.declared.event.Event.TheVariants as events;
 ghost use Rattle.blob_model.specs.Session.{Session};
 ghost use Rattle.blob_model.specs.History.{History};
-ghost use Rattle.blob_model.specs.Refusals.{refusal};
+ghost use Rattle.blob_model.specs.Choice.{first_that};
+ghost use Rattle.blob_model.specs.Refusals.{refusal, reader_refusals};
+ghost use Rattle.transcript_audit.specs.Follows.{Follows};
 ghost use Rattle.transcript_audit.specs.Keeps.{Keeps};
 ghost use Rattle.transcript_audit.specs.Kept.{is_flying};
 
+use crate::contents::Contents;
 use crate::kept::Kept;
+use crate::parts::few_bytes;
 use crate::recorded::{is_known, last_stamp};
 use crate::renderers::is_spawned;
 use answer_text::Refusal;
-use blob_words::{BlobName, Counted, FileName, JobNo, RendererId};
+use blob_words::{BlobName, Counted, FileName, JobNo, NoMemory, ReaderId, RendererId, UrlText};
 
 /// How many renderers a session may have.
 const MOST_RENDERERS: usize = 1_024;
+
+/// How many readers may be open.
+const MOST_READERS: usize = 4_096;
 
 /// How many files a session may name.
 const MOST_FILES: usize = 16_384;
@@ -129,6 +136,100 @@ impl Kept {
     {
         if !self.is_flying(j) {
             return Some(Refusal::NoJob(j));
+        }
+        None
+    }
+}
+
+impl Contents {
+    // Of the range that a `read` or a `fetch` line asks for.
+    fn reader_refusal(
+        &self,
+        q: ReaderId,
+        b: BlobName,
+        off: u64,
+        len: Option<u64>,
+    ) -> Result<Option<Refusal>, NoMemory>
+        ensures { IfOk result (λ why. (s : Session) (h : History) → Follows s h self.now
+            → why ≡ first_that (reader_refusals s h q b off len)) }
+    {
+        if self.is_open(q.0) {
+            return Ok(Some(Refusal::ReaderUsed(q)));
+        }
+        let size = self.size_in(b);
+        let end = u128::from(off) + u128::from(len.unwrap_or(0));
+        if !self.kept.is_broken(b) && size < end {
+            return Ok(Some(Refusal::Range(few_bytes(size)?)));
+        }
+        if self.readers.len() >= MOST_READERS {
+            return Ok(Some(Refusal::TooMany(Counted::Readers)));
+        }
+        Ok(None)
+    }
+
+    /// Of a `read` line.
+    pub fn read_refusal(
+        &self,
+        r: RendererId,
+        q: ReaderId,
+        b: BlobName,
+        off: u64,
+        len: Option<u64>,
+    ) -> Result<Option<Refusal>, NoMemory>
+        ensures { IfOk result (λ why. (s : Session) (h : History) → Follows s h self.now
+            → why ≡ refusal s h (events.Read r q b off len)) }
+    {
+        if !self.kept.is_alive(r) {
+            return Ok(Some(Refusal::NoRenderer(r)));
+        }
+        if !self.kept.has_handle(r, b) {
+            return Ok(Some(Refusal::NoHandle(r, b)));
+        }
+        self.reader_refusal(q, b, off, len)
+    }
+
+    /// Of a `fetch` line.
+    pub fn fetch_refusal(
+        &self,
+        r: RendererId,
+        q: ReaderId,
+        text: &UrlText,
+        off: u64,
+        len: Option<u64>,
+    ) -> Result<Option<Refusal>, NoMemory>
+        ensures { IfOk result (λ why. (s : Session) (h : History) → Follows s h self.now
+            → why ≡ refusal s h (events.Fetch r q text.now off len)) }
+    {
+        if !self.kept.is_alive(r) {
+            return Ok(Some(Refusal::NoRenderer(r)));
+        }
+        match self.kept.resolved(r, text) {
+            None => Ok(Some(Refusal::NoUrl)),
+            Some(entry) => self.reader_refusal(q, entry.blob, off, len),
+        }
+    }
+
+    /// Of a `step` line.
+    pub fn step_refusal(&self, q: ReaderId) -> Option<Refusal>
+        ensures { (s : Session) (h : History) → Follows s h self.now
+            → result ≡ refusal s h (events.Step q) }
+    {
+        if !self.is_open(q.0) {
+            return Some(Refusal::NoReader(q));
+        }
+        None
+    }
+
+    /// Of a `cancel` line.
+    pub fn cancel_refusal(&self, r: RendererId, q: ReaderId) -> Option<Refusal>
+        ensures { (s : Session) (h : History) → Follows s h self.now
+            → result ≡ refusal s h (events.Cancel r q) }
+    {
+        if !self.kept.is_alive(r) {
+            return Some(Refusal::NoRenderer(r));
+        }
+        if !self.owns_reader(r.0, q.0) {
+            return Some(Refusal::NoReader(q));
         }
         None
     }

@@ -1,13 +1,12 @@
 //! What was sent for a blob.
 ghost use Rattle.std.specs.Prelude.{◌≡◌, ℕ, ◌==◌, ◌<◌, ◌^◌, not, filter, length, IfOk, OnOk};
 ghost use Rattle.std.specs.List.{list_any, range_with_len};
-ghost use Rattle.blob_model.specs.Parts.{own_bytes};
 ghost use Rattle.blob_model.specs.Transport.{arrivals_after, has_come, spans};
 ghost use Rattle.transcript_audit.specs.Kept.{arrivals_in, is_arrival};
 ghost use Rattle.transcript_audit.specs.Missing.{missing_in};
 
 use crate::builds::Build;
-use crate::parts::{own_bytes, own_lengths};
+use crate::parts::{few_bytes, own_bytes, own_lengths};
 use crate::pieces::{cut_spans, piece_spans};
 use blob_words::{BlobName, ItemList, Limits, NoMemory, Octets, Plan};
 use session_script::Event;
@@ -89,17 +88,17 @@ pub fn spans(
     limits: &Limits,
     build: &Build,
 ) -> Result<ItemList<(u64, u64)>, NoMemory>
-    requires { own_bytes build.now.parts < 2 ^ 64 }
     ensures { IfOk result (λ found. found ≡ spans limits.now build.now) }
 {
     match build.plan {
         Some(Plan::Shared(_)) => {
-            let own = own_bytes(build.parts.as_slice()) as u64;
+            let own = few_bytes(own_bytes(build.parts.as_slice()))?;
             let mut found = ItemList::new(alloc);
             cut_spans(limits.segment, 0, own, &mut found)?;
             Ok(found)
         }
         Some(Plan::File(_)) => {
+            few_bytes(own_bytes(build.parts.as_slice()))?;
             let lengths = own_lengths(alloc, build.parts.as_slice())?;
             piece_spans(alloc, limits.page, lengths.as_slice())
         }
@@ -134,7 +133,6 @@ pub fn missing(
     brought: &[Brought],
     build: &Build,
 ) -> Result<ItemList<u64>, NoMemory>
-    requires { own_bytes build.now.parts < 2 ^ 64 }
     ensures { IfOk result (λ found. found ≡ missing_in limits.now brought.now build.now) }
 {
     let count = spans(alloc, limits, build)?.len() as u64;
@@ -148,7 +146,6 @@ pub fn has_all(
     brought: &[Brought],
     build: &Build,
 ) -> Result<bool, NoMemory>
-    requires { own_bytes build.now.parts < 2 ^ 64 }
     ensures { IfOk result (λ all. all
         ≡ (length (missing_in limits.now brought.now build.now) == 0)) }
 {
