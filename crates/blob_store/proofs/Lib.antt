@@ -1,4 +1,5 @@
 pub mod Releasing
+pub mod OwnedReaders
 pub mod Opening
 pub mod Rooting
 pub mod Changed
@@ -12,3 +13,7 @@ pub mod HeldBy
 pub mod Few
 pub mod Beside
 pub mod Freeing
+pub mod Rerooting
+pub mod HeardTables
+pub mod Rerooted
+pub mod Leaving

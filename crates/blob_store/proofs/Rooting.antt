@@ -17,7 +17,7 @@ use Rattle.url_store.specs.declared.url.Url.{Url}
 use Rattle.blob_store.specs.declared.readers.OpenReader.{OpenReader}
 use Rattle.blob_store.specs.Roots.{handles_of, roots_at, roots_in}
 
-on_held : (name : ℕ) (held : Option Living)
+pub on_held : (name : ℕ) (held : Option Living)
     → count_on name (option_map_or (λ (one : Living). one.counts) held []) ≡ unwrap_or (option_map (λ (one : Living). count_on name one.counts) held) 0
 on_held name None = refl
 on_held name (Some one) = refl

@@ -1,4 +1,5 @@
 pub mod Freed
+pub mod Owners
 pub mod Readers
 pub mod Rows
 pub mod Roots

@@ -3,6 +3,8 @@
 
 pub mod freed;
 mod lines;
+mod numbers;
+mod owners;
 pub mod parts;
 pub mod readers;
 pub mod row;

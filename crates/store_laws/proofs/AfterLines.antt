@@ -200,11 +200,11 @@ or_last true false = refl
 or_last false true = refl
 or_last false false = refl
 
-find_last : {X : Type 0} (test : X → Bool) (xs : List X) (x : X) → test x ≡ false → find test (xs ++ x ∷ []) ≡ find test xs
+pub find_last : {X : Type 0} (test : X → Bool) (xs : List X) (x : X) → test x ≡ false → find test (xs ++ x ∷ []) ≡ find test xs
 find_last {X = X} test [] x e = ap (λ (b : Bool). cond {A = Option X} b (Some x) None) e
 find_last {X = X} test (y ∷ xs) x e = ap (λ (found : Option X). cond {A = Option X} (test y) (Some y) found) (find_last test xs x e)
 
-find_new : {X : Type 0} (test : X → Bool) (xs : List X) (x : X) → list_any test xs ≡ false → test x ≡ true → find test (xs ++ x ∷ []) ≡ Some x
+pub find_new : {X : Type 0} (test : X → Bool) (xs : List X) (x : X) → list_any test xs ≡ false → test x ≡ true → find test (xs ++ x ∷ []) ≡ Some x
 find_new {X = X} test [] x none e = ap (λ (b : Bool). cond {A = Option X} b (Some x) None) e
 find_new {X = X} test (y ∷ xs) x none e =
     let parts = or_parts (test y) (list_any test xs) none in

@@ -32,3 +32,11 @@ pub mod Letting
 pub mod OrderLeft
 pub mod Queueing
 pub mod SweptStand
+pub mod Alike
+pub mod Rerooted
+pub mod Apart
+pub mod Tables
+pub mod Dying
+pub mod TableLines
+pub mod ApartHistories
+pub mod TableRefusals

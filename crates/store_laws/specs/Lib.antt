@@ -20,3 +20,6 @@ pub mod CountLaws
 pub mod SweepLaws
 pub mod LetGo
 pub mod Swept
+pub mod Roots
+pub mod Apart
+pub mod TableLaws

@@ -2,3 +2,4 @@
 #![tactic(auto)]
 
 mod laws;
+mod table_laws;

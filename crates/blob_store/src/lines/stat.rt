@@ -16,14 +16,14 @@ impl Parts {
     ghost use Rattle.blob_store.specs.Says.{scene, Says};
     ghost use Rattle.blob_store.specs.Whole.{IsWhole};
 
-    fn is_alive(&self, renderer: RendererId) -> bool
+    pub(crate) fn is_alive(&self, renderer: RendererId) -> bool
         ensures { result ≡ is_some (living_of renderer.0 self.now.renderers) }
     {
         self.renderers.origin_of(renderer).is_some()
     }
 
     // Why a renderer can't use its handle on a blob.
-    fn handle_refusal(&self, renderer: RendererId, name: BlobName) -> Option<Refusal>
+    pub(crate) fn handle_refusal(&self, renderer: RendererId, name: BlobName) -> Option<Refusal>
         ensures { result ≡ handle_refusal renderer name self.now.renderers }
     {
         if !self.is_alive(renderer) {
