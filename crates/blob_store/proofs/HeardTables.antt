@@ -93,7 +93,8 @@ open_seen number [] = refl
 open_seen number (one ∷ readers) = by (is_at (nat_cmp number) one.0) refl (open_seen number readers)
   where
     by : (b : Bool) → is_at (nat_cmp number) one.0 ≡ b → open_at number (map reader_of readers) ≡ option_map (open_said number) (reader_at number readers)
-        → cond b (Some (reader_of one).1) (open_at number (map reader_of readers)) ≡ option_map (open_said number) (cond b (Some one.1) (reader_at number readers))
+        → cond b (Some (reader_of one).1) (open_at number (map reader_of readers))
+        ≡ option_map (open_said number) (cond b (Some one.1) (reader_at number readers))
     by true at rest =
         let same : number ≡ one.0 = equal_at number one.0 at in
         ap {B = Option ReaderSaid} (λ (n : ℕ). Some (open_said n one.1)) (sym same)
@@ -116,7 +117,8 @@ goes_seen number reader old new there closes = record {
       omega (arith, closes.many, one, many_seen new, many_seen old);
 }
   where
-    by : (other : ℕ) (b : Bool) → option_map (open_said other) (cond b None (reader_at other old)) ≡ cond b None (option_map (open_said other) (reader_at other old))
+    by : (other : ℕ) (b : Bool) → option_map (open_said other) (cond b None (reader_at other old))
+        ≡ cond b None (option_map (open_said other) (reader_at other old))
     by other true = refl
     by other false = refl
 

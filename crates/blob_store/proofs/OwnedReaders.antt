@@ -36,10 +36,12 @@ without number readers = remove_entry (is_at (nat_cmp number)) readers
 abbrev pub numbers_of : ℕ → Open → List ℕ
 numbers_of owner readers = keys_of (owned_by owner readers)
 
-pub numbers_cons : (owner : ℕ) (entry : ℕ × OpenReader) (readers : Open) → numbers_of owner (entry ∷ readers) ≡ cond (nat_eq owner entry.1.owner.0) (entry.0 ∷ numbers_of owner readers) (numbers_of owner readers)
+pub numbers_cons : (owner : ℕ) (entry : ℕ × OpenReader) (readers : Open)
+    → numbers_of owner (entry ∷ readers) ≡ cond (nat_eq owner entry.1.owner.0) (entry.0 ∷ numbers_of owner readers) (numbers_of owner readers)
 numbers_cons owner entry readers = by (nat_eq owner entry.1.owner.0)
   where
-    by : (b : Bool) → keys_of (cond b (entry ∷ owned_by owner readers) (owned_by owner readers)) ≡ cond b (entry.0 ∷ numbers_of owner readers) (numbers_of owner readers)
+    by : (b : Bool) → keys_of (cond b (entry ∷ owned_by owner readers) (owned_by owner readers))
+        ≡ cond b (entry.0 ∷ numbers_of owner readers) (numbers_of owner readers)
     by true = refl
     by false = refl
 
@@ -52,45 +54,57 @@ same_here number = unsigned_tied number number ∙ eq-eqb number number refl
 equal_here : (one other : ℕ) → is_at (nat_cmp one) other ≡ true → one ≡ other
 equal_here one other at = eqb-true one other (sym (unsigned_tied one other) ∙ at)
 
-all_above : (low high : ℕ) (numbers : List ℕ) → nat_cmp low high ≡ Less → AllByRecursion (λ number. nat_cmp high number ≡ Less) numbers → AllByRecursion (λ number. nat_cmp low number ≡ Less) numbers
+all_above : (low high : ℕ) (numbers : List ℕ) → nat_cmp low high ≡ Less → AllByRecursion (λ number. nat_cmp high number ≡ Less) numbers
+    → AllByRecursion (λ number. nat_cmp low number ≡ Less) numbers
 all_above low high [] below all = tt
 all_above low high (number ∷ numbers) below all = (nat_cmp_total.trans low high number below all.0, all_above low high numbers below all.1)
 
-owned_above : (low : ℕ) (owner : ℕ) (readers : Open) → AllByRecursion (λ number. nat_cmp low number ≡ Less) (keys_of readers) → AllByRecursion (λ number. nat_cmp low number ≡ Less) (numbers_of owner readers)
+owned_above : (low : ℕ) (owner : ℕ) (readers : Open) → AllByRecursion (λ number. nat_cmp low number ≡ Less) (keys_of readers)
+    → AllByRecursion (λ number. nat_cmp low number ≡ Less) (numbers_of owner readers)
 owned_above low owner [] all = tt
 owned_above low owner (entry ∷ readers) all =
-    subst (AllByRecursion (λ number. nat_cmp low number ≡ Less)) (sym (numbers_cons owner entry readers)) (by (nat_eq owner entry.1.owner.0) (owned_above low owner readers all.1))
+    subst (AllByRecursion (λ number. nat_cmp low number ≡ Less)) (sym (numbers_cons owner entry readers))
+    (by (nat_eq owner entry.1.owner.0) (owned_above low owner readers all.1))
   where
-    by : (b : Bool) → AllByRecursion (λ number. nat_cmp low number ≡ Less) (numbers_of owner readers) → AllByRecursion (λ number. nat_cmp low number ≡ Less) (cond b (entry.0 ∷ numbers_of owner readers) (numbers_of owner readers))
+    by : (b : Bool) → AllByRecursion (λ number. nat_cmp low number ≡ Less) (numbers_of owner readers)
+        → AllByRecursion (λ number. nat_cmp low number ≡ Less) (cond b (entry.0 ∷ numbers_of owner readers) (numbers_of owner readers))
     by true rest = (all.0, rest)
     by false rest = rest
 
-insert_front : (number : ℕ) (numbers : List ℕ) → AllByRecursion (λ other. nat_cmp number other ≡ Less) numbers → insert_key nat_cmp numbers number ≡ number ∷ numbers
+insert_front : (number : ℕ) (numbers : List ℕ) → AllByRecursion (λ other. nat_cmp number other ≡ Less) numbers
+    → insert_key nat_cmp numbers number ≡ number ∷ numbers
 insert_front number [] all = refl
 insert_front number (other ∷ numbers) all = rw all.0 refl
 
 -- a reader that comes is its owner's
-pub owned_inserted : (number : ℕ) (reader : OpenReader) (readers : Open) → IsStrictlySortedBy nat_cmp (keys_of readers) → reader_at number readers ≡ None → (owner : ℕ)
-    → numbers_of owner (with_reader number reader readers) ≡ cond (nat_eq owner reader.owner.0) (insert_key nat_cmp (numbers_of owner readers) number) (numbers_of owner readers)
+pub owned_inserted : (number : ℕ) (reader : OpenReader) (readers : Open) → IsStrictlySortedBy nat_cmp (keys_of readers) → reader_at number readers ≡ None
+    → (owner : ℕ)
+    → numbers_of owner (with_reader number reader readers) ≡ cond (nat_eq owner reader.owner.0) (insert_key nat_cmp (numbers_of owner readers) number)
+    (numbers_of owner readers)
 owned_inserted number reader [] sorted none owner = numbers_cons owner (number, reader) []
 owned_inserted number reader (entry ∷ readers) sorted none owner =
     by (λ absent. owned_inserted number reader readers (sorted_tail nat_cmp entry.0 (keys_of readers) sorted) absent owner) (nat_cmp number entry.0) refl
   where
     more : (mine new : Bool) → nat_cmp number entry.0 ≡ Greater
-        → cond mine (entry.0 ∷ cond new (insert_key nat_cmp (numbers_of owner readers) number) (numbers_of owner readers)) (cond new (insert_key nat_cmp (numbers_of owner readers) number) (numbers_of owner readers))
-        ≡ cond new (insert_key nat_cmp (cond mine (entry.0 ∷ numbers_of owner readers) (numbers_of owner readers)) number) (cond mine (entry.0 ∷ numbers_of owner readers) (numbers_of owner readers))
+        → cond mine (entry.0 ∷ cond new (insert_key nat_cmp (numbers_of owner readers) number) (numbers_of owner readers))
+        (cond new (insert_key nat_cmp (numbers_of owner readers) number) (numbers_of owner readers))
+        ≡ cond new (insert_key nat_cmp (cond mine (entry.0 ∷ numbers_of owner readers) (numbers_of owner readers)) number)
+        (cond mine (entry.0 ∷ numbers_of owner readers) (numbers_of owner readers))
     more true true is = rw is refl
     more true false is = refl
     more false true is = refl
     more false false is = refl
 
-    by : (reader_at number readers ≡ None → numbers_of owner (with_reader number reader readers) ≡ cond (nat_eq owner reader.owner.0) (insert_key nat_cmp (numbers_of owner readers) number) (numbers_of owner readers))
-        → (r : Ordering) → nat_cmp number entry.0 ≡ r → numbers_of owner (match_ordering r ((number, reader) ∷ entry ∷ readers) ((entry.0, reader) ∷ readers) (entry ∷ with_reader number reader readers))
+    by : (reader_at number readers ≡ None → numbers_of owner (with_reader number reader readers)
+        ≡ cond (nat_eq owner reader.owner.0) (insert_key nat_cmp (numbers_of owner readers) number) (numbers_of owner readers))
+        → (r : Ordering) → nat_cmp number entry.0 ≡ r → numbers_of owner
+        (match_ordering r ((number, reader) ∷ entry ∷ readers) ((entry.0, reader) ∷ readers) (entry ∷ with_reader number reader readers))
         ≡ cond (nat_eq owner reader.owner.0) (insert_key nat_cmp (numbers_of owner (entry ∷ readers)) number) (numbers_of owner (entry ∷ readers))
     by rest Less is =
         let above = all_above number entry.0 (keys_of readers) is (sorted_head nat_cmp entry.0 (keys_of readers) sorted) in
         let front = insert_front number (numbers_of owner (entry ∷ readers)) (owned_above number owner (entry ∷ readers) (is, above)) in
-        numbers_cons owner (number, reader) (entry ∷ readers) ∙ ap (λ numbers. cond (nat_eq owner reader.owner.0) numbers (numbers_of owner (entry ∷ readers))) (sym front)
+        numbers_cons owner (number, reader) (entry ∷ readers)
+        ∙ ap (λ numbers. cond (nat_eq owner reader.owner.0) numbers (numbers_of owner (entry ∷ readers))) (sym front)
     by rest Equal is = let found = rw (eq_of number entry.0 Equal is) at none in cc
     by rest Greater is =
         let absent : reader_at number readers ≡ None = rw (eq_of number entry.0 Greater is) at none in
@@ -102,32 +116,39 @@ owned_inserted number reader (entry ∷ readers) sorted none owner =
 
 -- a reader that goes was its owner's
 pub owned_removed : (number : ℕ) (reader : OpenReader) (readers : Open) → reader_at number readers ≡ Some reader → (owner : ℕ)
-    → numbers_of owner (without number readers) ≡ cond (nat_eq owner reader.owner.0) (remove_key (is_at (nat_cmp number)) (numbers_of owner readers)) (numbers_of owner readers)
+    → numbers_of owner (without number readers) ≡ cond (nat_eq owner reader.owner.0) (remove_key (is_at (nat_cmp number)) (numbers_of owner readers))
+    (numbers_of owner readers)
 owned_removed number reader [] found owner = cc
 owned_removed number reader (entry ∷ readers) found owner = by (λ there. owned_removed number reader readers there owner) (is_at (nat_cmp number) entry.0) refl
   where
     here : (new : Bool) → is_at (nat_cmp number) entry.0 ≡ true
-        → numbers_of owner readers ≡ cond new (remove_key (is_at (nat_cmp number)) (cond new (entry.0 ∷ numbers_of owner readers) (numbers_of owner readers))) (cond new (entry.0 ∷ numbers_of owner readers) (numbers_of owner readers))
+        → numbers_of owner readers ≡ cond new (remove_key (is_at (nat_cmp number))
+        (cond new (entry.0 ∷ numbers_of owner readers) (numbers_of owner readers))) (cond new (entry.0 ∷ numbers_of owner readers) (numbers_of owner readers))
     here true is = rw is refl
     here false is = refl
 
     more : (mine new : Bool) → is_at (nat_cmp number) entry.0 ≡ false
-        → cond mine (entry.0 ∷ cond new (remove_key (is_at (nat_cmp number)) (numbers_of owner readers)) (numbers_of owner readers)) (cond new (remove_key (is_at (nat_cmp number)) (numbers_of owner readers)) (numbers_of owner readers))
-        ≡ cond new (remove_key (is_at (nat_cmp number)) (cond mine (entry.0 ∷ numbers_of owner readers) (numbers_of owner readers))) (cond mine (entry.0 ∷ numbers_of owner readers) (numbers_of owner readers))
+        → cond mine (entry.0 ∷ cond new (remove_key (is_at (nat_cmp number)) (numbers_of owner readers)) (numbers_of owner readers))
+        (cond new (remove_key (is_at (nat_cmp number)) (numbers_of owner readers)) (numbers_of owner readers))
+        ≡ cond new (remove_key (is_at (nat_cmp number)) (cond mine (entry.0 ∷ numbers_of owner readers) (numbers_of owner readers)))
+        (cond mine (entry.0 ∷ numbers_of owner readers) (numbers_of owner readers))
     more true true is = rw is refl
     more true false is = refl
     more false true is = refl
     more false false is = refl
 
-    by : (reader_at number readers ≡ Some reader → numbers_of owner (without number readers) ≡ cond (nat_eq owner reader.owner.0) (remove_key (is_at (nat_cmp number)) (numbers_of owner readers)) (numbers_of owner readers))
+    by : (reader_at number readers ≡ Some reader → numbers_of owner (without number readers)
+        ≡ cond (nat_eq owner reader.owner.0) (remove_key (is_at (nat_cmp number)) (numbers_of owner readers)) (numbers_of owner readers))
         → (r : Bool) → is_at (nat_cmp number) entry.0 ≡ r → numbers_of owner (cond r readers (entry ∷ without number readers))
         ≡ cond (nat_eq owner reader.owner.0) (remove_key (is_at (nat_cmp number)) (numbers_of owner (entry ∷ readers))) (numbers_of owner (entry ∷ readers))
     by rest true is =
         let there = rw is at found in
         let same : entry.1 ≡ reader = cc in
         let own = numbers_cons owner entry readers in
-        here (nat_eq owner entry.1.owner.0) is ∙ ap (λ numbers. cond (nat_eq owner entry.1.owner.0) (remove_key (is_at (nat_cmp number)) numbers) numbers) (sym own)
-        ∙ ap (λ (one : OpenReader). cond (nat_eq owner one.owner.0) (remove_key (is_at (nat_cmp number)) (numbers_of owner (entry ∷ readers))) (numbers_of owner (entry ∷ readers))) same
+        here (nat_eq owner entry.1.owner.0) is ∙ ap (λ numbers. cond (nat_eq owner entry.1.owner.0) (remove_key (is_at (nat_cmp number)) numbers) numbers)
+        (sym own)
+        ∙ ap (λ (one : OpenReader). cond (nat_eq owner one.owner.0) (remove_key (is_at (nat_cmp number)) (numbers_of owner (entry ∷ readers)))
+        (numbers_of owner (entry ∷ readers))) same
     by rest false is =
         let mine = nat_eq owner entry.1.owner.0 in
         let new = nat_eq owner reader.owner.0 in
@@ -136,11 +157,14 @@ owned_removed number reader (entry ∷ readers) found owner = by (λ there. owne
         ∙ ap (λ numbers. cond new (remove_key (is_at (nat_cmp number)) numbers) numbers) (sym own)
 
 -- a reader that comes and goes leaves the others
-pub removed_inserted : (number : ℕ) (reader : OpenReader) (readers : Open) → reader_at number readers ≡ None → without number (with_reader number reader readers) ≡ readers
+pub removed_inserted : (number : ℕ) (reader : OpenReader) (readers : Open) → reader_at number readers ≡ None
+    → without number (with_reader number reader readers) ≡ readers
 removed_inserted number reader [] none = rw (same_here number) refl
 removed_inserted number reader (entry ∷ readers) none = by (λ absent. removed_inserted number reader readers absent) (nat_cmp number entry.0) refl
   where
-    by : (reader_at number readers ≡ None → without number (with_reader number reader readers) ≡ readers) → (r : Ordering) → nat_cmp number entry.0 ≡ r → without number (match_ordering r ((number, reader) ∷ entry ∷ readers) ((entry.0, reader) ∷ readers) (entry ∷ with_reader number reader readers)) ≡ entry ∷ readers
+    by : (reader_at number readers ≡ None → without number (with_reader number reader readers) ≡ readers) → (r : Ordering) → nat_cmp number entry.0 ≡ r
+        → without number (match_ordering r ((number, reader) ∷ entry ∷ readers) ((entry.0, reader) ∷ readers) (entry ∷ with_reader number reader readers))
+        ≡ entry ∷ readers
     by rest Less is = rw (same_here number) refl
     by rest Equal is = let found = rw (eq_of number entry.0 Equal is) at none in cc
     by rest Greater is =
@@ -160,19 +184,23 @@ none_below number [] all = refl
 none_below number (entry ∷ readers) all = rw (eq_of number entry.0 Less all.0) (none_below number readers all.1)
 
 -- the first number of an owner is that of its first reader
-pub first_owned : (owner : ℕ) (number : ℕ) (readers : Open) → IsStrictlySortedBy nat_cmp (keys_of readers) → slice_get (numbers_of owner readers) 0 ≡ Some number → IsFirst owner number readers
+pub first_owned : (owner : ℕ) (number : ℕ) (readers : Open) → IsStrictlySortedBy nat_cmp (keys_of readers)
+    → slice_get (numbers_of owner readers) 0 ≡ Some number → IsFirst owner number readers
 first_owned owner number [] sorted is = cc
 first_owned owner number (entry ∷ readers) sorted is =
-    by (λ rest. first_owned owner number readers (sorted_tail nat_cmp entry.0 (keys_of readers) sorted) rest) (nat_eq owner entry.1.owner.0) refl (subst (λ numbers. slice_get numbers 0 ≡ Some number) (numbers_cons owner entry readers) is)
+    by (λ rest. first_owned owner number readers (sorted_tail nat_cmp entry.0 (keys_of readers) sorted) rest) (nat_eq owner entry.1.owner.0) refl
+    (subst (λ numbers. slice_get numbers 0 ≡ Some number) (numbers_cons owner entry readers) is)
   where
-    apart : (r : Bool) → is_at (nat_cmp number) entry.0 ≡ r → (reader : OpenReader) → reader_at number readers ≡ Some reader → is_at (nat_cmp number) entry.0 ≡ false
+    apart : (r : Bool) → is_at (nat_cmp number) entry.0 ≡ r → (reader : OpenReader) → reader_at number readers ≡ Some reader
+        → is_at (nat_cmp number) entry.0 ≡ false
     apart false is reader there = is
     apart true is reader there =
         let same : number ≡ entry.0 = equal_here number entry.0 is in
         let none = none_below entry.0 readers (sorted_head nat_cmp entry.0 (keys_of readers) sorted) in
         let none : reader_at number readers ≡ None = subst (λ one. reader_at one readers ≡ None) (sym same) none in cc
 
-    by : (slice_get (numbers_of owner readers) 0 ≡ Some number → IsFirst owner number readers) → (mine : Bool) → nat_eq owner entry.1.owner.0 ≡ mine → slice_get (cond mine (entry.0 ∷ numbers_of owner readers) (numbers_of owner readers)) 0 ≡ Some number → IsFirst owner number (entry ∷ readers)
+    by : (slice_get (numbers_of owner readers) 0 ≡ Some number → IsFirst owner number readers) → (mine : Bool) → nat_eq owner entry.1.owner.0 ≡ mine
+        → slice_get (cond mine (entry.0 ∷ numbers_of owner readers) (numbers_of owner readers)) 0 ≡ Some number → IsFirst owner number (entry ∷ readers)
     by rest true mine is =
         let same : entry.0 ≡ number = cc in
         record {
@@ -208,29 +236,37 @@ removed_first number (other ∷ numbers) is =
 -- ---- the index beside the readers
 
 -- a reader that comes
-pub agree_inserted : (readers : Open) (owners later : Owners) (number : ℕ) (reader : OpenReader) → IsStrictlySortedBy nat_cmp (keys_of readers) → reader_at number readers ≡ None → Agree readers owners
-    → ((other : ℕ) → numbers_at other later ≡ cond (nat_eq other reader.owner.0) (insert_key nat_cmp (numbers_at other owners) number) (numbers_at other owners))
+pub agree_inserted : (readers : Open) (owners later : Owners) (number : ℕ) (reader : OpenReader) → IsStrictlySortedBy nat_cmp (keys_of readers)
+    → reader_at number readers ≡ None → Agree readers owners
+    → ((other : ℕ) → numbers_at other later ≡ cond (nat_eq other reader.owner.0) (insert_key nat_cmp (numbers_at other owners) number)
+    (numbers_at other owners))
     → Agree (with_reader number reader readers) later
 agree_inserted readers owners later number reader sorted none agree is = λ other.
-    is other ∙ ap (λ numbers. cond (nat_eq other reader.owner.0) (insert_key nat_cmp numbers number) numbers) (agree other) ∙ sym (owned_inserted number reader readers sorted none other)
+    is other ∙ ap (λ numbers. cond (nat_eq other reader.owner.0) (insert_key nat_cmp numbers number) numbers) (agree other)
+    ∙ sym (owned_inserted number reader readers sorted none other)
 
 -- a reader that goes
 pub agree_removed : (readers : Open) (owners later : Owners) (number : ℕ) (reader : OpenReader) → reader_at number readers ≡ Some reader → Agree readers owners
-    → ((other : ℕ) → numbers_at other later ≡ cond (nat_eq other reader.owner.0) (remove_key (is_at (nat_cmp number)) (numbers_at other owners)) (numbers_at other owners))
+    → ((other : ℕ) → numbers_at other later ≡ cond (nat_eq other reader.owner.0) (remove_key (is_at (nat_cmp number)) (numbers_at other owners))
+    (numbers_at other owners))
     → Agree (without number readers) later
 agree_removed readers owners later number reader there agree is = λ other.
-    is other ∙ ap (λ numbers. cond (nat_eq other reader.owner.0) (remove_key (is_at (nat_cmp number)) numbers) numbers) (agree other) ∙ sym (owned_removed number reader readers there other)
+    is other ∙ ap (λ numbers. cond (nat_eq other reader.owner.0) (remove_key (is_at (nat_cmp number)) numbers) numbers) (agree other)
+    ∙ sym (owned_removed number reader readers there other)
 
 -- an owner's first reader goes
-pub agree_popped : (readers : Open) (owners later : Owners) (owner : ℕ) (number : ℕ) → IsFirst owner number readers → slice_get (numbers_of owner readers) 0 ≡ Some number → Agree readers owners
+pub agree_popped : (readers : Open) (owners later : Owners) (owner : ℕ) (number : ℕ) → IsFirst owner number readers
+    → slice_get (numbers_of owner readers) 0 ≡ Some number → Agree readers owners
     → ((other : ℕ) → numbers_at other later ≡ cond (nat_eq other owner) (drop 1 (numbers_at other owners)) (numbers_at other owners))
     → Agree (without number readers) later
 agree_popped readers owners later owner number first least agree is = λ other.
     is other ∙ ap (λ numbers. cond (nat_eq other owner) (drop 1 numbers) numbers) (agree other) ∙ by other (nat_eq other owner) refl
-    ∙ ap (λ one. cond (nat_eq other one) (remove_key (is_at (nat_cmp number)) (numbers_of other readers)) (numbers_of other readers)) (eqb-true owner first.reader.owner.0 first.own)
+    ∙ ap (λ one. cond (nat_eq other one) (remove_key (is_at (nat_cmp number)) (numbers_of other readers)) (numbers_of other readers))
+    (eqb-true owner first.reader.owner.0 first.own)
     ∙ sym (owned_removed number first.reader readers first.there other)
   where
-    by : (other : ℕ) (r : Bool) → nat_eq other owner ≡ r → cond r (drop 1 (numbers_of other readers)) (numbers_of other readers) ≡ cond r (remove_key (is_at (nat_cmp number)) (numbers_of other readers)) (numbers_of other readers)
+    by : (other : ℕ) (r : Bool) → nat_eq other owner ≡ r → cond r (drop 1 (numbers_of other readers)) (numbers_of other readers)
+        ≡ cond r (remove_key (is_at (nat_cmp number)) (numbers_of other readers)) (numbers_of other readers)
     by other false is = refl
     by other true is =
         let same : other ≡ owner = eqb-true other owner is in

@@ -259,7 +259,8 @@ pub whole_closed : (parts : Parts) (number : ℕ) (reader : OpenReader) (readers
     → Closes number parts.readers readers → Whole (record parts { registry = changed parts.registry reader.blob held_less; readers = readers })
 whole_closed parts number reader readers whole there closes =
     whole_let_go parts parts.renderers parts.urls readers reader.blob whole whole.living
-    (λ other. subst (λ (held : Option OpenReader). IfSome held (IsOpen parts.registry)) (sym (closes.each other)) (by other (number == other) (whole.readers other)))
+    (λ other. subst (λ (held : Option OpenReader). IfSome held (IsOpen parts.registry)) (sym (closes.each other))
+    (by other (number == other) (whole.readers other)))
     (let fewer = closes.many in omega (arith, fewer, whole.opened)) 1
     (λ other.
     let less = closes.reading other in

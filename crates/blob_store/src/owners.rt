@@ -21,7 +21,8 @@ pub fn put_number(
     number: u32,
 ) -> Result<(), NoMemory>
     ensures ok { OnOk result ((other : ℕ) → numbers_at other owners.new.entries
-        ≡ (if nat_eq other owner then insert_key nat_cmp (numbers_at other owners.old.entries) number
+        ≡ (if nat_eq other owner
+        then insert_key nat_cmp (numbers_at other owners.old.entries) number
         else numbers_at other owners.old.entries)) }
     ensures err { OnErr result ((other : ℕ) → numbers_at other owners.new.entries
         ≡ numbers_at other owners.old.entries) }

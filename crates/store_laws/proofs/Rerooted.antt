@@ -49,7 +49,8 @@ entry_with list all shares own build (Some entry) roots is = record {
   sources = is.sources;
 }
 
-mark_with : (s : Session) (h : History) (build : Build) (held : Option Entry) (roots : ℕ) → IsMarkedRight s h build held → IsMarkedRight s h build (with roots held)
+mark_with : (s : Session) (h : History) (build : Build) (held : Option Entry) (roots : ℕ) → IsMarkedRight s h build held
+    → IsMarkedRight s h build (with roots held)
 mark_with s h build None roots is = tt
 mark_with s h build (Some entry) roots is = is
 

@@ -7,8 +7,8 @@ pub fn keys_differ()
     ensures { KeysDiffer }
 {}
 
-/// The parts stand for the history with a line that passes a handle on, makes or revokes a URL, records
-/// or forgets a file, closes a reader, or lets a renderer die.
+/// The parts stand for the history with a line that passes a handle on, makes or revokes a URL,
+/// records or forgets a file, closes a reader, or lets a renderer die.
 pub fn table_lines_stand()
     ensures { TableLinesStand }
 {}

@@ -15,12 +15,7 @@ impl Parts {
 
     /// A file has these bytes from a change stamp on.
     #[tactic(auto, unfolding(crate::specs::Whole::IsWhole))]
-    pub fn file(
-        &mut self,
-        name: &FileName,
-        stamp: u64,
-        bytes: &Octets,
-    ) -> Result<Answer, NoMemory>
+    pub fn file(&mut self, name: &FileName, stamp: u64, bytes: &Octets) -> Result<Answer, NoMemory>
         requires { IsWhole self.old }
         ensures whole { IsWhole self.new }
         ensures says { IfOk result (λ answer. (told : Option (List Change)) (table : Table)

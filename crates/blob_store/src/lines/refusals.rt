@@ -19,11 +19,7 @@ impl Parts {
     }
 
     // Why a renderer can't close a reader.
-    pub(crate) fn reader_refusal(
-        &self,
-        renderer: RendererId,
-        reader: ReaderId,
-    ) -> Option<Refusal>
+    pub(crate) fn reader_refusal(&self, renderer: RendererId, reader: ReaderId) -> Option<Refusal>
         ensures { result ≡ reader_refusal renderer reader self.now.renderers
             (map reader_of self.now.readers) }
     {
