@@ -84,7 +84,7 @@ own_there owner text urls url = by (url_at text urls)
     by (Some one) at = mine one (nat_eq owner one.owner.0) at
 
 -- an open reader with its number
-pub open_said : ℕ → OpenReader → ReaderSaid
+abbrev pub open_said : ℕ → OpenReader → ReaderSaid
 open_said number reader = (reader_of (number, reader)).1
 
 pub open_seen : (number : ℕ) (readers : List (ℕ × OpenReader))

@@ -4,6 +4,7 @@ use Rattle.std.specs.Option.{option_map}
 use Rattle.answer_text.specs.declared.refusal.Refusal.TheVariants as refusals
 use Rattle.session_script.specs.declared.event.Event.TheVariants as events
 use Rattle.blob_entries.specs.Book.{Book}
+use Rattle.renderer_table.specs.Table.{Table}
 use Rattle.blob_model.specs.History.{history_from, start}
 use Rattle.blob_model.specs.Live.{is_live}
 use Rattle.store_laws.proofs.TableRefusals.{pass_known, pass_refusal}
@@ -42,11 +43,15 @@ returns-in-Ok-clause-says c told table s groups legal still stands =
 
 pub returns-in-Err-NoRenderer-clause-whole : goal.returns-in-Err-NoRenderer-clause-whole
 unfolding IsWhole
-returns-in-Err-NoRenderer-clause-whole c = whole_counted c.args.self.now c.requires.whole
+returns-in-Err-NoRenderer-clause-whole c =
+    subst (λ (renderers : Table). Whole (with_line (record c.args.self.now { renderers = renderers }))) (sym c.in-Err-NoRenderer.ensures.fault.0)
+    (whole_counted c.args.self.now c.requires.whole)
 
 pub returns-in-Err-NoHandle-clause-whole : goal.returns-in-Err-NoHandle-clause-whole
 unfolding IsWhole
-returns-in-Err-NoHandle-clause-whole c = whole_counted c.args.self.now c.requires.whole
+returns-in-Err-NoHandle-clause-whole c =
+    subst (λ (renderers : Table). Whole (with_line (record c.args.self.now { renderers = renderers }))) (sym c.in-Err-NoHandle.ensures.fault.0)
+    (whole_counted c.args.self.now c.requires.whole)
 
 pub returns-in-Err-NoRenderer-clause-says : goal.returns-in-Err-NoRenderer-clause-says
 unfolding Says
