@@ -10,8 +10,6 @@ mod folders;
 #[cfg(test)]
 mod same;
 #[cfg(test)]
-mod sixteen;
-#[cfg(test)]
 mod two;
 #[cfg(test)]
 mod watched;
