@@ -10,6 +10,8 @@ mod folders;
 #[cfg(test)]
 mod same;
 #[cfg(test)]
+mod sixteen;
+#[cfg(test)]
 mod two;
 #[cfg(test)]
 mod watched;
