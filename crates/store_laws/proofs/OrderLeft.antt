@@ -1,9 +1,8 @@
 -- The order of use of the pieces that are left when items go.
 use Rattle.std.proofs.Common.{◌≡◌, ℕ, ◌==◌, ◌&&◌, ◌||◌, not, Bool, true, false, cond, List, [], ◌∷◌, map, reverse, refl, ap, subst, sym, ◌∙◌, Option, Some, None}
-use Rattle.core.specs.List.{cons_option}
 use Rattle.std.specs.Prelude.{filter, filter_map, find, fold, is_none, nat_eq}
 use Rattle.std.specs.Option.{option_map, option_map_or}
-use Rattle.std.specs.List.{list_any}
+use Rattle.std.specs.List.{cons_option, list_any}
 use Rattle.std.proofs.lemmas.Bool.{and_parts, eqb-true}
 use Rattle.blob_words.specs.declared.status.Status.{Status}
 use Rattle.item_shares.specs.declared.item.Item.{Item}
