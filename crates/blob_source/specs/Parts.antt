@@ -1,6 +1,7 @@
 -- How the bytes of a line come together, part by part. Own.
-use Rattle.std.specs.Prelude.{ℕ, ◌≡◌, ◌+◌, ◌^◌, ◌<◌, ◌≤◌, false, List, [], ◌∷◌, ◌++◌, length, Option}
+use Rattle.std.specs.Prelude.{ℕ, ◌≡◌, ◌+◌, ◌<◌, ◌≤◌, false, List, [], ◌∷◌, ◌++◌, length, Option}
 use Rattle.std.specs.Io.KnownBytes.{Keeps, IsAtEnd}
+use Rattle.blob_words.specs.declared.bounds.TheConstants.{LONGEST_LINE}
 use Rattle.blob_source.specs.Lines.{has_line_feed}
 use Rattle.blob_source.specs.declared.filled.Filled.{Filled}
 use Rattle.blob_source.specs.declared.filled.Filled.TheVariants as fills
@@ -22,6 +23,6 @@ pub record Moves (old new line longer gone : List ℕ) : Type 0 where
 
 -- what a step says of the bytes ahead and the line, before and after it
 abbrev pub TakesPiece : List ℕ → List ℕ → List ℕ → List ℕ → Piece → Type 0
-TakesPiece old new line longer pieces.Line = Moves old new line longer (10 ∷ []) × (length longer ≤ 2 ^ 20)
-TakesPiece old new line longer pieces.TooLong = Moves old new line longer [] × (length longer ≡ 2 ^ 20 + 1)
-TakesPiece old new line longer pieces.More = Moves old new line longer [] × (length longer ≤ 2 ^ 20) × (length line < length longer)
+TakesPiece old new line longer pieces.Line = Moves old new line longer (10 ∷ []) × (length longer ≤ LONGEST_LINE)
+TakesPiece old new line longer pieces.TooLong = Moves old new line longer [] × (length longer ≡ LONGEST_LINE + 1)
+TakesPiece old new line longer pieces.More = Moves old new line longer [] × (length longer ≤ LONGEST_LINE) × (length line < length longer)

@@ -1,11 +1,10 @@
-ghost use Rattle.std.specs.Prelude.{◌≡◌, ◌+◌, ◌≤◌, ◌^◌, ◌++◌, [], length, IfOk};
+ghost use Rattle.std.specs.Prelude.{◌≡◌, ◌+◌, ◌≤◌, ◌++◌, [], length, IfOk};
+ghost use Rattle.blob_words.specs.declared.bounds.TheConstants.{LONGEST_LINE};
 
 use blob_words::NoMemory;
+use blob_words::bounds::LONGEST_LINE;
 use std::alloc::Global;
 use std::marker::Model;
-
-// The longest line, in bytes.
-pub const LONGEST_LINE: usize = 1 << 20;
 
 // The bytes of a line, with room for the longest line and one more byte.
 #[derive(Debug, Drop)]
@@ -14,14 +13,15 @@ pub struct LineBuffer {
 }
 
 impl Model for LineBuffer {
-    ghost use Rattle.std.specs.Prelude.{ℕ, ◌+◌, ◌≤◌, ◌^◌, List};
+    ghost use Rattle.std.specs.Prelude.{ℕ, ◌+◌, ◌≤◌, List};
     ghost use Rattle.std.specs.Vec.{vec_capacity};
+    ghost use Rattle.blob_words.specs.declared.bounds.TheConstants.{LONGEST_LINE};
 
     ghost Value = { List ℕ };
 
     ghost view = { λ line. line.bytes.items };
 
-    ghost invariant = { λ line. 2 ^ 20 + 1 ≤ vec_capacity line.bytes };
+    ghost invariant = { λ line. LONGEST_LINE + 1 ≤ vec_capacity line.bytes };
 }
 
 impl LineBuffer {
@@ -45,7 +45,7 @@ impl LineBuffer {
     }
 
     pub fn append(&mut self, part: &[u8])
-        requires { length self.old + length part.now ≤ 2 ^ 20 + 1 }
+        requires { length self.old + length part.now ≤ LONGEST_LINE + 1 }
         ensures { self.new ≡ self.old ++ part.now }
     {
         self.bytes.extend_from_slice(part).unwrap();

@@ -1,5 +1,6 @@
-ghost use Rattle.std.specs.Prelude.{◌≡◌, ◌≢◌, ◌≤◌, ◌^◌, [], false, length, IfOk};
+ghost use Rattle.std.specs.Prelude.{◌≡◌, ◌≢◌, ◌≤◌, [], false, length, IfOk};
 ghost use Rattle.std.specs.Io.KnownBytes.{prepend_known};
+ghost use Rattle.blob_words.specs.declared.bounds.TheConstants.{LONGEST_LINE};
 ghost use Rattle.blob_source.specs.Faults.{Rose};
 ghost use Rattle.blob_source.specs.Lines.{Takes, has_line_feed};
 
@@ -22,7 +23,8 @@ pub struct LineReader {
 }
 
 impl Model for LineReader {
-    ghost use Rattle.std.specs.Prelude.{◌≡◌, ◌≤◌, ◌^◌, false, length};
+    ghost use Rattle.std.specs.Prelude.{◌≡◌, ◌≤◌, false, length};
+    ghost use Rattle.blob_words.specs.declared.bounds.TheConstants.{LONGEST_LINE};
     ghost use Rattle.blob_source.specs.declared.line_step.LineStep.TheVariants.{Line};
     ghost use Rattle.blob_source.specs.Lines.{Reading, has_line_feed};
 
@@ -35,7 +37,7 @@ impl Model for LineReader {
     } };
 
     ghost invariant = { λ reader. reader.last ≡ Line →
-        (length reader.line ≤ 2 ^ 20) × (has_line_feed reader.line ≡ false) };
+        (length reader.line ≤ LONGEST_LINE) × (has_line_feed reader.line ≡ false) };
 }
 
 impl LineReader {
@@ -83,7 +85,7 @@ impl LineReader {
     pub fn line(&self) -> &[u8]
         requires { self.now.last ≡ LineStep.Line }
         ensures bytes { result.now ≡ self.now.line }
-        ensures short { length result.now ≤ 2 ^ 20 }
+        ensures short { length result.now ≤ LONGEST_LINE }
         ensures plain { has_line_feed result.now ≡ false }
     {
         self.line.as_slice()

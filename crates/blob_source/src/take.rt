@@ -1,5 +1,6 @@
-ghost use Rattle.std.specs.Prelude.{◌≡◌, ◌≢◌, ◌<◌, ◌≤◌, ◌^◌, [], length};
+ghost use Rattle.std.specs.Prelude.{◌≡◌, ◌≢◌, ◌<◌, ◌≤◌, [], length};
 ghost use Rattle.std.specs.Io.KnownBytes.{prepend_known};
+ghost use Rattle.blob_words.specs.declared.bounds.TheConstants.{LONGEST_LINE};
 ghost use Rattle.blob_source.specs.Faults.{Rose};
 ghost use Rattle.blob_source.specs.Lines.{Takes};
 ghost use Rattle.blob_source.specs.Parts.{TakesPiece};
@@ -7,15 +8,16 @@ ghost use Rattle.blob_source.specs.Parts.{TakesPiece};
 use crate::ahead::Ahead;
 use crate::filled::Filled;
 use crate::find::find_byte;
-use crate::line_buffer::{LONGEST_LINE, LineBuffer};
+use crate::line_buffer::LineBuffer;
 use crate::line_step::LineStep;
 use crate::piece::Piece;
 use crate::source::Source;
+use blob_words::bounds::LONGEST_LINE;
 
 // Moves bytes from those ahead to the line, up to a line feed or to one byte too many.
 fn take_piece(ahead: &mut Ahead, line: &mut LineBuffer) -> Piece
     requires some { 0 < length ahead.old }
-    requires short { length line.old ≤ 2 ^ 20 }
+    requires short { length line.old ≤ LONGEST_LINE }
     ensures { TakesPiece ahead.old ahead.new line.old line.new result }
 {
     let room = LONGEST_LINE + 1 - line.as_slice().len();

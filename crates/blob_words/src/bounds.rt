@@ -33,3 +33,6 @@ pub const MOST_LINES: usize = 1_048_576;
 
 /// Bytes of a line, without its line feed.
 pub const LONGEST_LINE: usize = 1_048_576;
+
+/// Bytes of a page that one call appends to its file.
+pub const LONGEST_APPEND: usize = 65_536;

@@ -1,6 +1,7 @@
 ghost use Rattle.std.specs.Prelude.{ℕ, ◌≡◌, ◌<◌, ◌++◌, [], ◌∷◌, false, length, map, min, nat_eq, IfOk, OnErr, OnOk};
 ghost use Rattle.std.specs.List.{IsDistinct};
 ghost use Rattle.std.specs.Map.{keys_of};
+ghost use Rattle.blob_words.specs.declared.bounds.TheConstants.{MOST_PIECES};
 ghost use Rattle.recent_items.specs.Recent.{is_there, touched, victims, without};
 
 use blob_words::{NoMemory, PieceList, PieceNo};
@@ -13,7 +14,6 @@ use std::marker::Model;
 #[derive(Debug, Drop)]
 pub struct Recent {
     alloc: Global,
-    // The contract of its `len` tells that its keys are apart, and so the calls below ask for it.
     order: LruCache<u32, u64>,
 }
 
@@ -40,11 +40,11 @@ impl Recent {
     #[tactic(auto, using(crate::proofs::Order::entered_reverse))]
     pub fn enter(&mut self, piece: PieceNo, len: u64) -> Result<(), NoMemory>
         requires absent { is_there piece.0 self.old ≡ false }
-        requires room { length self.old < 65536 }
+        requires room { length self.old < MOST_PIECES }
         ensures ok { OnOk result (self.new ≡ self.old ++ (piece.0, len) ∷ []) }
         ensures err { OnErr result (self.new ≡ self.old) }
     {
-        let _count = self.order.len();
+        let _count = self.order.len(); // says that the keys are apart
         self.order.put(piece.0, len)?;
         Ok(())
     }
@@ -54,7 +54,7 @@ impl Recent {
     pub fn touch(&mut self, piece: PieceNo)
         ensures { self.new ≡ touched piece.0 self.old }
     {
-        let _count = self.order.len();
+        let _count = self.order.len(); // says that the keys are apart
         let _ = self.order.promote(&piece.0);
     }
 
@@ -63,7 +63,7 @@ impl Recent {
     pub fn leave(&mut self, piece: PieceNo)
         ensures { self.new ≡ without piece.0 self.old }
     {
-        let _count = self.order.len();
+        let _count = self.order.len(); // says that the keys are apart
         let _ = self.order.pop(&piece.0);
     }
 
@@ -76,7 +76,7 @@ impl Recent {
         ensures value { IfOk result (λ pieces. map (λ piece. piece.0) pieces
             ≡ victims need (min page room) self.now) }
     {
-        let _count = self.order.len();
+        let _count = self.order.len(); // says that the keys are apart
         let mut pieces = PieceList::new(self.alloc);
         let mut missing = need;
         let mut free = page.min(room);

@@ -6,6 +6,7 @@ use Rattle.std.specs.Ordering.{nat_cmp}
 use Rattle.std.specs.Map.{lookup, set_value}
 use Rattle.std.specs.BTreeMap.{insert_entry, is_at}
 use Rattle.std.specs.BTreeSet.{insert_key}
+use Rattle.blob_words.specs.declared.bounds.TheConstants.{MOST_RENDERERS}
 use Rattle.renderer_table.specs.declared.living.Living.{Living}
 use Rattle.renderer_table.specs.declared.fault.SpawnFault.{SpawnFault}
 use Rattle.renderer_table.specs.declared.fault.SpawnFault.TheVariants as spawns
@@ -60,7 +61,7 @@ with_counts id counts table = record table { living = counted_in id counts table
 -- why a number can't be spawned: a number serves once, and only so many serve
 abbrev pub spawn_fault : ℕ → Table → Option SpawnFault
 spawn_fault id table =
-    if was_spawned id table then Some spawns.Used else if nat_le 1024 (length table.spawned) then Some spawns.Full else None
+    if was_spawned id table then Some spawns.Used else if nat_le MOST_RENDERERS (length table.spawned) then Some spawns.Full else None
 
 -- a fault is the one that is due; want of memory comes only where none is
 abbrev pub IsCause : SpawnFault → Option SpawnFault → Type 0

@@ -1,4 +1,4 @@
-ghost use Rattle.std.specs.Prelude.{◌≡◌, ◌+◌, ◌<◌, ◌≤◌, ◌^◌, [], drop, slice_get, IsSome, OnErr, OnOk};
+ghost use Rattle.std.specs.Prelude.{◌≡◌, ◌+◌, ◌<◌, ◌^◌, [], drop, slice_get, IsSome, OnErr, OnOk};
 ghost use Rattle.std.specs.List.Sorted.{IsStrictlySortedBy};
 ghost use Rattle.std.specs.Ordering.{nat_cmp};
 ghost use Rattle.std.specs.Map.{keys_of, lookup, set_value};
@@ -60,7 +60,7 @@ impl Counts {
         ensures fewer { self.new ≡ one_fewer blob self.old }
         ensures ordered { IsStrictlySortedBy nat_cmp (keys_of self.old) }
     {
-        let _count = self.counts.len(); // says that the names are in order
+        let _count = self.counts.len(); // says that the keys are in order
         let count = self.count_on(blob);
         if count == 1 {
             let _ = self.counts.remove(&blob.number());
@@ -75,7 +75,7 @@ impl Counts {
         ensures rest { self.new ≡ drop 1 self.old }
         ensures ordered { IsStrictlySortedBy nat_cmp (keys_of self.old) }
     {
-        let _count = self.counts.len();
+        let _count = self.counts.len(); // says that the keys are in order
         let (number, count) = self.counts.pop_first()?;
         Some((BlobName::from_number(number), count))
     }

@@ -10,13 +10,11 @@ ghost use Rattle.renderer_table.specs.Table.{count_of, counted_in, counts_in, co
 
 use crate::fault::{DropFault, PassFault, SpawnFault};
 use crate::living::Living;
+use blob_words::bounds::MOST_RENDERERS;
 use blob_words::{BlobName, NoMemory, Origin, RendererId};
 use std::alloc::Global;
 use std::collections::{BTreeMap, BTreeSet};
 use std::marker::Model;
-
-/// How many renderers a table takes, dead ones among them.
-const MOST_RENDERERS: usize = 1_024;
 
 /// The renderers: those that were ever spawned, and the living ones with their origins and
 /// handles.
@@ -28,7 +26,6 @@ pub struct Renderers {
 }
 
 impl Model for Renderers {
-    ghost use Rattle.renderer_table.specs.Counted.{origin_at, ChangesCount, Dies, Spawns};
     ghost use Rattle.renderer_table.specs.Table.{Table};
 
     ghost Value = { Table };
@@ -264,7 +261,7 @@ impl Renderers {
         ensures nobody { IfNone result ((other : ℕ) → living_of other self.now ≡ None) }
         ensures ordered { IsStrictlySortedBy nat_cmp (keys_of self.now.living) }
     {
-        let _count = self.living.len();
+        let _count = self.living.len(); // says that the keys are in order
         match self.living.first_key_value() {
             Some((id, _)) => Some(RendererId(*id)),
             None => None,

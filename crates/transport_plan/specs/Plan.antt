@@ -1,6 +1,7 @@
 -- The table of plans: how the bytes of a build come to the store. Own.
 use Rattle.std.specs.Prelude.{ℕ, ◌≡◌, ◌≤◌, ◌<◌, ⊤, ◌+◌, ◌==◌, ◌&&◌, Bool, not, nat_lt, nat_le, if◌then◌else◌}
 use Rattle.std.specs.Int.{div_ceil}
+use Rattle.blob_words.specs.declared.bounds.TheConstants.{MOST_PIECES, MOST_SEGMENTS}
 use Rattle.blob_words.specs.declared.plan.Plan.{Plan}
 use Rattle.blob_words.specs.declared.plan.Plan.TheVariants as plans
 use Rattle.blob_words.specs.declared.counted.Counted.TheVariants.{Segments, Pieces}
@@ -19,13 +20,13 @@ abbrev pub fits_inline : PlanInput → Bool
 fits_inline input =
     (input.asked == 0) && nat_le (own_bytes input) input.limits.inline_max && not input.waiting && nat_le (input.memory_used + own_bytes input) input.limits.memory
 
--- a file plan has a segment for each piece, and a session at most 65,536 pieces
+-- a file plan has a segment for each piece, and a session so many at most
 abbrev pub file_plan : ℕ → Plan
-file_plan pieces = if nat_lt 65536 pieces then plans.TooMany Pieces else plans.File pieces
+file_plan pieces = if nat_lt MOST_PIECES pieces then plans.TooMany Pieces else plans.File pieces
 
--- a build has at most 65,536 segments
+-- a build has so many segments at most
 abbrev pub shared_plan : ℕ → Plan
-shared_plan segments = if nat_lt 65536 segments then plans.TooMany Segments else plans.Shared segments
+shared_plan segments = if nat_lt MOST_SEGMENTS segments then plans.TooMany Segments else plans.Shared segments
 
 -- the first plan that applies
 abbrev pub plan_of : PlanInput → Plan
@@ -40,7 +41,7 @@ plan_of input =
 abbrev pub FitsPlan : PlanInput → Plan → Type 0
 FitsPlan input plans.None = own_bytes input ≡ 0
 FitsPlan input plans.Inline = (input.asked ≡ 0) × (input.memory_used + own_bytes input ≤ input.limits.memory)
-FitsPlan input (plans.Shared n) = (n ≡ div_ceil (own_bytes input) input.limits.segment) × (n ≤ 65536) × (own_bytes input ≤ input.limits.memory)
-FitsPlan input (plans.File n) = (n ≡ input.pieces) × (n ≤ 65536) × (input.disk_used + own_bytes input ≤ input.limits.disk)
+FitsPlan input (plans.Shared n) = (n ≡ div_ceil (own_bytes input) input.limits.segment) × (n ≤ MOST_SEGMENTS) × (own_bytes input ≤ input.limits.memory)
+FitsPlan input (plans.File n) = (n ≡ input.pieces) × (n ≤ MOST_PIECES) × (input.disk_used + own_bytes input ≤ input.limits.disk)
 FitsPlan input plans.OutOfMemory = input.limits.memory < own_bytes input
 FitsPlan input (plans.TooMany what) = ⊤

@@ -1,11 +1,9 @@
 ghost use Rattle.std.specs.Prelude.{◌≡◌, ◌+◌, ◌≤◌, ◌^◌};
-ghost use Rattle.transport_plan.specs.Plan.{own_bytes, has_file_room, fits_inline, file_plan, shared_plan, plan_of, FitsPlan};
+ghost use Rattle.transport_plan.specs.Plan.{has_file_room, fits_inline, file_plan, shared_plan, plan_of, FitsPlan};
 
 use crate::input::PlanInput;
+use blob_words::bounds::{MOST_PIECES, MOST_SEGMENTS};
 use blob_words::{Counted, Plan};
-
-/// The most segments that a build may have, and the most pieces.
-const MOST: u64 = 65_536;
 
 /// Whether paging is on and page files have room for the own bytes.
 fn has_file_room(input: &PlanInput) -> bool
@@ -33,7 +31,7 @@ fn fits_inline(input: &PlanInput) -> bool
 fn file_plan(pieces: u64) -> Plan
     ensures { result ≡ file_plan pieces }
 {
-    if pieces > MOST {
+    if pieces > MOST_PIECES as u64 {
         Plan::TooMany(Counted::Pieces)
     } else {
         Plan::File(pieces as u32)
@@ -43,7 +41,7 @@ fn file_plan(pieces: u64) -> Plan
 fn shared_plan(segments: u64) -> Plan
     ensures { result ≡ shared_plan segments }
 {
-    if segments > MOST {
+    if segments > MOST_SEGMENTS as u64 {
         Plan::TooMany(Counted::Segments)
     } else {
         Plan::Shared(segments as u32)

@@ -1,5 +1,5 @@
-ghost use Rattle.std.specs.Prelude.{◌≡◌, ◌+◌, ◌*◌, ◌≤◌, ◌<◌, ◌^◌, sum, slice_index_or};
-ghost use Rattle.transport_plan.specs.Spans.{IsPlanOf, segments, segment_spans, span_at, cut_spans, piece_count, piece_spans};
+ghost use Rattle.std.specs.Prelude.{◌≡◌, ◌+◌, ◌*◌, ◌≤◌, ◌<◌, ◌^◌, slice_index_or};
+ghost use Rattle.transport_plan.specs.Spans.{IsPlanOf, segments, segment_spans, span_at, piece_count, piece_spans};
 
 use blob_words::{Limits, Plan};
 
