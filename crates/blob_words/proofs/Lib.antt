@@ -1,2 +1,3 @@
 mod Names
 pub mod NameBytes
+pub mod Keyed

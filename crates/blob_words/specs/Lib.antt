@@ -4,3 +4,5 @@ pub mod Origin
 pub mod FileName
 pub mod UrlText
 pub mod Lends
+pub mod Bytes
+pub mod Keys

@@ -2,6 +2,7 @@
 #![tactic(auto)]
 
 pub mod bounds;
+pub mod bytes;
 pub mod counted;
 pub mod fault;
 pub mod file_name;
@@ -14,9 +15,11 @@ pub mod origin;
 pub mod plan;
 pub mod status;
 pub mod tally;
+pub mod text;
 pub mod url_text;
 pub mod version;
 
+pub use bytes::zeros;
 pub use counted::Counted;
 pub use fault::{Failed, NameFault, NoMemory};
 pub use file_name::FileName;
@@ -29,5 +32,6 @@ pub use origin::Origin;
 pub use plan::Plan;
 pub use status::Status;
 pub use tally::Tally;
+pub use text::{Text, TextRule};
 pub use url_text::UrlText;
 pub use version::Version;

@@ -105,8 +105,9 @@ impl Limits {
         chunk: u64,
     ) -> Result<Limits, LimitFault>
         ensures fields { IfOk result (λ limits.
-            (limits.memory ≡ memory) × (limits.disk ≡ disk) × (limits.big ≡ big) × (limits.inline_max ≡ inline_max)
-            × (limits.segment ≡ segment) × (limits.page ≡ page) × (limits.chunk ≡ chunk)) }
+            (limits.memory ≡ memory) × (limits.disk ≡ disk) × (limits.big ≡ big)
+            × (limits.inline_max ≡ inline_max) × (limits.segment ≡ segment)
+            × (limits.page ≡ page) × (limits.chunk ≡ chunk)) }
         ensures fault { MatchResult result
             (λ _. limit_fault memory disk big inline_max segment page chunk ≡ None)
             (λ fault. limit_fault memory disk big inline_max segment page chunk ≡ Some fault) }

@@ -23,7 +23,8 @@ impl BlobName {
     /// The name that is spelled so: 36 bytes, the hyphenated text of a UUID in lower case.
     pub fn from_text(text: &[u8]) -> Result<BlobName, NameFault>
         ensures ok { IfOk result (λ name. text.now ≡ name_text name) }
-        ensures form { IfErr result (λ _. (number : ℕ) → number < 2 ^ 128 → text.now ≢ name_text number) }
+        ensures form { IfErr result
+            (λ _. (number : ℕ) → number < 2 ^ 128 → text.now ≢ name_text number) }
     {
         let Ok(uuid) = Uuid::try_parse_ascii(text) else {
             return Err(NameFault::Form);
