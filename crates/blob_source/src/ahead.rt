@@ -3,10 +3,9 @@ ghost use Rattle.std.specs.Io.KnownBytes.{prepend_known};
 ghost use Rattle.blob_source.specs.Faults.{Rose};
 ghost use Rattle.blob_source.specs.Parts.{Fills};
 
-use crate::copies::zeros;
 use crate::filled::Filled;
 use crate::source::Source;
-use blob_words::{Failed, NoMemory};
+use blob_words::{Failed, NoMemory, zeros};
 use std::alloc::Global;
 use std::marker::Model;
 

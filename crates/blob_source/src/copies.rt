@@ -1,6 +1,4 @@
-ghost use Rattle.std.specs.Prelude.{◌≡◌, ◌≤◌, length, take, IfOk, vec_len};
-
-use std::alloc::{AllocError, Global};
+ghost use Rattle.std.specs.Prelude.{◌≡◌, ◌≤◌, length, take};
 
 // Copies the first `count` bytes of one slice over those of the other.
 pub fn copy_front(from: &[u8], to: &mut [u8], count: usize)
@@ -9,11 +7,4 @@ pub fn copy_front(from: &[u8], to: &mut [u8], count: usize)
     ensures front { take count to.new ≡ take count from.now }
 {
     to[..count].copy_from_slice(&from[..count]);
-}
-
-// A vector of that many zeros.
-pub fn zeros(alloc: Global, count: usize) -> Result<Vec<u8>, AllocError>
-    ensures { IfOk result (λ zeros. vec_len zeros ≡ count) }
-{
-    vec![in alloc; 0u8; count]
 }

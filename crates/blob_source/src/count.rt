@@ -33,14 +33,10 @@ pub fn counted_write(
     ensures failed { OnErr answer (IsErr result × (faults.new ≡ next_count faults.old)) }
     ensures later { faults.old ≤ faults.new }
 {
-    match counted(answer, faults) {
-        Ok(count) => {
-            if count == 0 && len > 0 {
-                *faults = faults.saturating_add(1);
-                return Err(Failed);
-            }
-            Ok(count)
-        }
-        Err(Failed) => Err(Failed),
+    let count = counted(answer, faults)?;
+    if count == 0 && len > 0 {
+        *faults = faults.saturating_add(1);
+        return Err(Failed);
     }
+    Ok(count)
 }

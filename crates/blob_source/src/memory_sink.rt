@@ -4,6 +4,7 @@ ghost use Rattle.std.specs.Io.KnownBytes.{WriteAppends};
 ghost use Rattle.blob_source.specs.Faults.{Rose, next_count};
 ghost use Rattle.blob_source.specs.Memory.{is_listed};
 
+use crate::schedule::Schedule;
 use crate::sink::Sink;
 use blob_words::{Failed, NoMemory, Octets64};
 use std::alloc::Global;
@@ -14,9 +15,8 @@ use std::marker::Model;
 pub struct MemorySink {
     bytes: Vec<u8>,
     room: usize,
-    failing: Octets64,
     most: usize,
-    calls: u64,
+    schedule: Schedule,
     faults: u64,
 }
 
@@ -30,9 +30,9 @@ impl Model for MemorySink {
     ghost view = { λ sink. record {
       held = sink.bytes.items;
       room = sink.room;
-      failing = sink.failing;
+      failing = sink.schedule.failing;
       most = sink.most;
-      calls = sink.calls;
+      calls = sink.schedule.calls;
       faults = sink.faults;
     } };
 
@@ -77,9 +77,8 @@ impl MemorySink {
         Ok(MemorySink {
             bytes,
             room,
-            failing,
             most,
-            calls: 0,
+            schedule: Schedule::new(failing),
             faults: 0,
         })
     }
@@ -122,9 +121,8 @@ impl Sink for MemorySink {
           faults = next_count self.old.faults;
         }) }
     {
-        let is_listed = self.failing.as_slice().contains(&self.calls);
-        self.calls = self.calls.saturating_add(1);
-        if is_listed || (self.room == 0 && !bytes.is_empty()) {
+        let fails = self.schedule.fails_next();
+        if fails || (self.room == 0 && !bytes.is_empty()) {
             self.faults = self.faults.saturating_add(1);
             return Err(Failed);
         }

@@ -6,6 +6,7 @@ ghost use Rattle.blob_source.specs.Faults.{Rose, next_count};
 ghost use Rattle.blob_source.specs.Memory.{is_listed};
 
 use crate::copies::copy_front;
+use crate::schedule::Schedule;
 use crate::source::Source;
 use blob_words::{Failed, Octets, Octets64};
 use std::marker::Model;
@@ -15,9 +16,8 @@ use std::marker::Model;
 pub struct MemorySource {
     bytes: Octets,
     at: usize,
-    failing: Octets64,
     most: usize,
-    calls: u64,
+    schedule: Schedule,
     faults: u64,
 }
 
@@ -29,9 +29,9 @@ impl Model for MemorySource {
 
     ghost view = { λ source. record {
       left = drop source.at source.bytes;
-      failing = source.failing;
+      failing = source.schedule.failing;
       most = source.most;
-      calls = source.calls;
+      calls = source.schedule.calls;
       faults = source.faults;
     } };
 
@@ -66,9 +66,8 @@ impl MemorySource {
         MemorySource {
             bytes,
             at: 0,
-            failing,
             most,
-            calls: 0,
+            schedule: Schedule::new(failing),
             faults: 0,
         }
     }
@@ -100,9 +99,7 @@ impl Source for MemorySource {
           faults = next_count self.old.faults;
         }) }
     {
-        let is_listed = self.failing.as_slice().contains(&self.calls);
-        self.calls = self.calls.saturating_add(1);
-        if is_listed {
+        if self.schedule.fails_next() {
             self.faults = self.faults.saturating_add(1);
             return Err(Failed);
         }

@@ -15,7 +15,8 @@ pub trait Sink {
     ghost faults: { Self → ℕ };
 
     /// Takes some bytes of the front of `bytes`, at least one where there is one, and answers how
-    /// many. After `Failed` no byte was taken. The count rises where a call fails, and nowhere else.
+    /// many. After `Failed` no byte was taken. The count rises where a call fails, and nowhere
+    /// else.
     fn write(&mut self, bytes: &[u8]) -> Result<usize, Failed>
         ensures progress { IfOk result
             (λ n. (n ≤ length bytes.now) × (0 < length bytes.now → 0 < n)) }

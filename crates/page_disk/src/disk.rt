@@ -1,4 +1,5 @@
 ghost use Rattle.std.specs.Prelude.{◌≡◌, ◌+◌, ◌-◌, ◌^◌, ◌<◌, ◌≤◌, ◌++◌, [], Some, None, drop, length, min, take, IfSome, IsErrOf, IsSomeAnd, MatchResult, OnErr, OnOk};
+ghost use Rattle.blob_words.specs.declared.bounds.TheConstants.{LONGEST_APPEND};
 ghost use Rattle.blob_source.specs.Faults.{Rose};
 ghost use Rattle.page_disk.specs.declared.change.Change.TheVariants.{Torn, Remove, Left};
 ghost use Rattle.page_disk.specs.Changes.{with_change, with_more, with_put, with_torn, last_put, HasRange, IsNew, Stands};
@@ -34,8 +35,10 @@ pub trait PageDisk {
         requires closed { writing self.old ≡ None }
         requires some { 0 < len }
         requires new_page { IfSome (changes self.old) (IsNew page.0) }
-        ensures ok { OnOk result ((writing self.new ≡ Some (record { page = page; len = len; came = 0 }))
-            × (changes self.new ≡ changes self.old) × IfSome (changes self.new) (λ _. came self.new ≡ [])) }
+        ensures ok { OnOk result
+            ((writing self.new ≡ Some (record { page = page; len = len; came = 0 }))
+            × (changes self.new ≡ changes self.old)
+            × IfSome (changes self.new) (λ _. came self.new ≡ [])) }
         ensures failed { IsErrOf result PutFault.Failed → (writing self.new ≡ None)
             × (changes self.new ≡ with_change (Torn page) (changes self.old))
             × Rose (faults self.old) (faults self.new) }
@@ -45,13 +48,15 @@ pub trait PageDisk {
         ensures later { faults self.old ≤ faults self.new }
         ensures meter { meter self.new ≡ meter self.old };
 
-    /// Writes the next 1 to 65,536 bytes of the open write. After `Failed` it is closed, and the
-    /// page is torn.
+    /// Writes the next bytes of the open write, 1 to `LONGEST_APPEND`. After `Failed` it is closed,
+    /// and the page is torn.
     fn append(&mut self, bytes: &[u8]) -> Result<(), Failed>
-        requires fits { IsSomeAnd (writing self.old) (λ write. write.came + length bytes.now ≤ write.len) }
+        requires fits { IsSomeAnd (writing self.old)
+            (λ write. write.came + length bytes.now ≤ write.len) }
         requires some { 0 < length bytes.now }
-        requires most { length bytes.now ≤ 65536 }
-        ensures ok { OnOk result ((writing self.new ≡ with_more (length bytes.now) (writing self.old))
+        requires most { length bytes.now ≤ LONGEST_APPEND }
+        ensures ok { OnOk result
+            ((writing self.new ≡ with_more (length bytes.now) (writing self.old))
             × (changes self.new ≡ changes self.old)
             × IfSome (changes self.new) (λ _. came self.new ≡ came self.old ++ bytes.now)) }
         ensures failed { OnErr result ((writing self.new ≡ None)
@@ -80,7 +85,8 @@ pub trait PageDisk {
         requires there { IfSome (changes self.old) (HasRange page.0 off (length out.old)) }
         ensures closed { writing self.new ≡ None }
         ensures same { changes self.new ≡ changes self.old }
-        ensures bytes { OnOk result (IfSome (changes self.old) (λ changes. IsSomeAnd (last_put page.0 changes)
+        ensures bytes { OnOk result (IfSome (changes self.old)
+            (λ changes. IsSomeAnd (last_put page.0 changes)
             (λ bytes. out.new ≡ take (length out.old) (drop off bytes)))) }
         ensures failed { OnErr result (Rose (faults self.old) (faults self.new)) }
         ensures good { OnOk result (faults self.new ≡ faults self.old) }
@@ -96,7 +102,8 @@ pub trait PageDisk {
         requires there { IfSome (changes self.old) (Stands page.0) }
         ensures closed { writing self.new ≡ None }
         ensures ok { OnOk result (changes self.new ≡ with_change (Remove page) (changes self.old)) }
-        ensures failed { OnErr result ((changes self.new ≡ with_change (Left page) (changes self.old))
+        ensures failed { OnErr result
+            ((changes self.new ≡ with_change (Left page) (changes self.old))
             × Rose (faults self.old) (faults self.new)) }
         ensures good { OnOk result (faults self.new ≡ faults self.old) }
         ensures later { faults self.old ≤ faults self.new }

@@ -1,5 +1,6 @@
-ghost use Rattle.std.specs.Prelude.{◌≡◌, ◌+◌, ◌-◌, ◌^◌, ◌<◌, ◌≤◌, ◌++◌, [], ◌∷◌, true, false, Some, None, drop, length, min, take, IfErr, IfOk, IfSome, IsErrOf, IsSomeAnd, MatchResult, OnErr, OnOk};
+ghost use Rattle.std.specs.Prelude.{◌≡◌, ◌+◌, ◌-◌, ◌^◌, ◌<◌, ◌≤◌, ◌++◌, [], ◌∷◌, true, false, Some, None, drop, length, min, take, IsErrOf, IsSomeAnd, MatchResult, OnErr, OnOk};
 ghost use Rattle.std.specs.Result.{is_err};
+ghost use Rattle.blob_words.specs.declared.bounds.TheConstants.{LONGEST_APPEND};
 ghost use Rattle.blob_source.specs.Faults.{Rose, next_count};
 ghost use Rattle.blob_source.specs.Memory.{is_listed};
 ghost use Rattle.page_disk.specs.declared.change.Change.TheVariants.{Put, Torn, Remove, Left};
@@ -12,22 +13,21 @@ use crate::fault::PutFault;
 use crate::find::{fill_from, last_put};
 use crate::log::Log;
 use crate::written::Written;
+use blob_source::Schedule;
 use blob_words::{Failed, Octets64, PageNo};
 use std::alloc::Global;
 use std::marker::Model;
 
-/// A disk over memory, which tells all that was done and fails at the calls that it is told. A write
-/// counts as one call, whose number is drawn at `begin`, together with `get` and `remove`; `append`
-/// and `seal` are counted among themselves.
+/// A disk over memory, which tells all that was done and fails at the calls that it is told. A
+/// write counts as one call, whose number is drawn at `begin`, together with `get` and `remove`;
+/// `append` and `seal` are counted among themselves.
 #[derive(Debug, Drop)]
 pub struct MemoryDisk {
     alloc: Global,
     log: Log,
     write: Option<Written>,
-    failing: Octets64,
-    pieces: Octets64,
-    calls: u64,
-    piece_calls: u64,
+    schedule: Schedule,
+    piece_schedule: Schedule,
     faults: u64,
     meter: u64,
 }
@@ -41,10 +41,10 @@ impl Model for MemoryDisk {
     ghost view = { λ disk. record {
       changes = disk.log.changes;
       write = disk.write;
-      failing = disk.failing;
-      pieces = disk.pieces;
-      calls = disk.calls;
-      piece_calls = disk.piece_calls;
+      failing = disk.schedule.failing;
+      pieces = disk.piece_schedule.failing;
+      calls = disk.schedule.calls;
+      piece_calls = disk.piece_schedule.calls;
       faults = disk.faults;
       meter = disk.meter;
     } };
@@ -52,13 +52,6 @@ impl Model for MemoryDisk {
     // There is room for the removal of each page, and for the end of the open write.
     ghost invariant = { λ disk. disk.log.spare
         ≡ length (standing disk.log.changes) + (if is_some disk.write then 2 else 0) };
-}
-
-// Whether the call of this number is to fail.
-fn is_listed(failing: &Octets64, call: u64) -> bool
-    ensures { result ≡ is_listed failing.now call }
-{
-    failing.as_slice().contains(&call)
 }
 
 impl MemoryDisk {
@@ -78,10 +71,8 @@ impl MemoryDisk {
             alloc,
             log: Log::new(alloc),
             write: None,
-            failing,
-            pieces,
-            calls: 0,
-            piece_calls: 0,
+            schedule: Schedule::new(failing),
+            piece_schedule: Schedule::new(pieces),
             faults: 0,
             meter: 0,
         }
@@ -110,13 +101,15 @@ impl PageDisk for MemoryDisk {
         requires closed { open_in self.old ≡ None }
         requires some { 0 < len }
         requires new_page { IsNew page.0 self.old.changes }
-        ensures ok { OnOk result ((open_in self.new ≡ Some (record { page = page; len = len; came = 0 }))
+        ensures ok { OnOk result
+            ((open_in self.new ≡ Some (record { page = page; len = len; came = 0 }))
             × (Some self.new.changes ≡ Some self.old.changes) × (came_in self.new ≡ [])) }
         ensures failed { IsErrOf result PutFault.Failed → (open_in self.new ≡ None)
             × (Some self.new.changes ≡ with_change (Torn page) (Some self.old.changes))
             × Rose self.old.faults self.new.faults }
         ensures memory { IsErrOf result PutFault.NoMemory → (open_in self.new ≡ None)
-            × (Some self.new.changes ≡ Some self.old.changes) × (self.new.faults ≡ self.old.faults) }
+            × (Some self.new.changes ≡ Some self.old.changes)
+            × (self.new.faults ≡ self.old.faults) }
         ensures good { OnOk result (self.new.faults ≡ self.old.faults) }
         ensures later { self.old.faults ≤ self.new.faults }
         ensures meter { self.new.meter ≡ self.old.meter }
@@ -142,8 +135,7 @@ impl PageDisk for MemoryDisk {
         if self.log.reserve().is_err() {
             return Err(PutFault::NoMemory);
         }
-        let is_failing = is_listed(&self.failing, self.calls);
-        self.calls = self.calls.saturating_add(1);
+        let is_failing = self.schedule.fails_next();
         if is_failing {
             self.log.push(Change::Torn(page));
             self.faults = self.faults.saturating_add(1);
@@ -154,10 +146,12 @@ impl PageDisk for MemoryDisk {
     }
 
     fn append(&mut self, bytes: &[u8]) -> Result<(), Failed>
-        requires fits { IsSomeAnd (open_in self.old) (λ write. write.came + length bytes.now ≤ write.len) }
+        requires fits { IsSomeAnd (open_in self.old)
+            (λ write. write.came + length bytes.now ≤ write.len) }
         requires some { 0 < length bytes.now }
-        requires most { length bytes.now ≤ 65536 }
-        ensures ok { OnOk result ((open_in self.new ≡ with_more (length bytes.now) (open_in self.old))
+        requires most { length bytes.now ≤ LONGEST_APPEND }
+        ensures ok { OnOk result
+            ((open_in self.new ≡ with_more (length bytes.now) (open_in self.old))
             × (Some self.new.changes ≡ Some self.old.changes)
             × (came_in self.new ≡ came_in self.old ++ bytes.now)) }
         ensures failed { OnErr result ((open_in self.new ≡ None)
@@ -169,10 +163,11 @@ impl PageDisk for MemoryDisk {
 
         // It fails exactly at the calls listed.
         ensures fails { is_err result ≡ is_listed self.old.pieces self.old.piece_calls }
-        ensures longer { OnOk result (IsSomeAnd self.old.write (λ write. self.new ≡ record self.old {
-          write = Some (record write { bytes = write.bytes ++ bytes.now });
-          piece_calls = next_count self.old.piece_calls;
-        })) }
+        ensures longer { OnOk result (IsSomeAnd self.old.write
+            (λ write. self.new ≡ record self.old {
+              write = Some (record write { bytes = write.bytes ++ bytes.now });
+              piece_calls = next_count self.old.piece_calls;
+            })) }
         ensures torn { OnErr result (IsSomeAnd self.old.write (λ write. self.new ≡ record self.old {
           changes = self.old.changes ++ Torn write.page ∷ [];
           write = None;
@@ -180,8 +175,7 @@ impl PageDisk for MemoryDisk {
           faults = next_count self.old.faults;
         })) }
     {
-        let is_failing = is_listed(&self.pieces, self.piece_calls);
-        self.piece_calls = self.piece_calls.saturating_add(1);
+        let is_failing = self.piece_schedule.fails_next();
         let mut write = self.write.take().unwrap();
         if is_failing {
             self.log.push(Change::Torn(write.page()));
@@ -219,8 +213,7 @@ impl PageDisk for MemoryDisk {
           faults = next_count self.old.faults;
         })) }
     {
-        let is_failing = is_listed(&self.pieces, self.piece_calls);
-        self.piece_calls = self.piece_calls.saturating_add(1);
+        let is_failing = self.piece_schedule.fails_next();
         let write = self.write.take().unwrap();
         if is_failing {
             self.log.push(Change::Torn(write.page()));
@@ -256,8 +249,7 @@ impl PageDisk for MemoryDisk {
           faults = next_count self.old.faults;
         }) }
     {
-        let is_failing = is_listed(&self.failing, self.calls);
-        self.calls = self.calls.saturating_add(1);
+        let is_failing = self.schedule.fails_next();
         if is_failing {
             self.faults = self.faults.saturating_add(1);
             return Err(Failed);
@@ -293,8 +285,7 @@ impl PageDisk for MemoryDisk {
           faults = next_count self.old.faults;
         }) }
     {
-        let is_failing = is_listed(&self.failing, self.calls);
-        self.calls = self.calls.saturating_add(1);
+        let is_failing = self.schedule.fails_next();
         if is_failing {
             self.log.push(Change::Left(page));
             self.faults = self.faults.saturating_add(1);

@@ -10,8 +10,8 @@ returns-clause-bytes c =
     let bytes = c.self.inside.bytes in
     let start = c.self.inside.at in
     let count = c.min-count.result in
-    let left : take (length c.as_slice-2.result.now - start) (drop start c.as_slice-2.result.now) ≡ drop start bytes =
-    take_rest c.as_slice-2.result.now start ∙ ap (drop start) c.as_slice-2.ensures in
+    let left : take (length c.as_slice.result.now - start) (drop start c.as_slice.result.now) ≡ drop start bytes =
+    take_rest c.as_slice.result.now start ∙ ap (drop start) c.as_slice.ensures in
     let front : take count c.copy_front.new.to ≡ take count (drop start bytes) = c.copy_front.ensures.front ∙ ap (take count) left in (
       sym (ap (λ (feed : Feed). feed.left) c.self.view_is) ∙ split_front bytes _ start count front,
       λ none some.

@@ -20,7 +20,7 @@ returns-then-is_failing-clause-failed c = λ _.
     let torn : List Change → List Change = λ changes. changes ++ Torn c.args.page ∷ [] in (
       ap open_in c.self.view_is ∙ c.requires.closed,
       ap (λ (log : Record). Some log.changes) c.push.ensures ∙ ap (λ (log : Record). Some (torn log.changes)) reserved ∙ ap (λ (disk : Disk). Some (torn disk.changes)) c.self.view_is,
-      subst (λ (disk : Disk). Rose disk.faults c.saturating_add-self-inside-then-is_failing.result) c.self.view_is (search rules),
+      subst (λ (disk : Disk). Rose disk.faults c.saturating_add-self-inside.result) c.self.view_is (search rules),
     )
 
 pub invariant_of-self-2 : goal.invariant_of-self-2
