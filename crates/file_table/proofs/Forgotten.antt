@@ -8,9 +8,10 @@ use Rattle.std.specs.Map.{keys_of, lookup, set_value}
 use Rattle.std.specs.BTreeMap.{is_at}
 use Rattle.file_table.specs.declared.file_note.FileNote.{FileNote}
 use Rattle.file_table.specs.declared.file_note.FileState.{FileState}
-use Rattle.file_table.specs.Keys.{key_cmp, order_of}
+use Rattle.blob_words.specs.Keys.{key_cmp, order_of}
 use Rattle.file_table.specs.Files.{note_of, noted, recorded, state_of}
-use Rattle.file_table.proofs.Names.{lookup_seen, seen, written_seen}
+use Rattle.blob_words.proofs.Keyed.{lookup_seen, seen}
+use Rattle.file_table.proofs.Names.{written_seen}
 
 -- a state is that of a content
 has_bytes : (state : List ℕ → FileState) (bytes : Option (List ℕ)) → is_some (option_map state bytes) ≡ true → is_some bytes ≡ true

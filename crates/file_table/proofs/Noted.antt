@@ -5,10 +5,10 @@ use Rattle.std.specs.declared.alloc.Global.{Global}
 use Rattle.std.specs.Map.{lookup}
 use Rattle.std.specs.BTreeMap.{is_at, BTreeMap, UpdatesBy}
 use Rattle.file_table.specs.declared.file_note.FileNote.{FileNote}
-use Rattle.file_table.specs.Keys.{key_cmp, order_of}
+use Rattle.blob_words.specs.Keys.{key_cmp, order_of}
 use Rattle.file_table.specs.Files.{note_of}
 use Rattle.file_table.specs.Changes.{Notes}
-use Rattle.file_table.proofs.Names.{length_seen, lookup_seen, reads_updated, seen}
+use Rattle.blob_words.proofs.Keyed.{length_seen, lookup_seen, reads_updated, seen}
 
 abbrev Keyed : Type 0
 Keyed = BTreeMap (Vec ℕ Global) FileNote

@@ -6,6 +6,7 @@ use Rattle.std.specs.Cmp.Lexicographic.{slice_cmp}
 use Rattle.std.specs.Str.{bytes_eq}
 use Rattle.std.specs.Map.{lookup}
 use Rattle.std.specs.BTreeMap.{insert_entry}
+use Rattle.blob_words.specs.declared.bounds.TheConstants.{MOST_FILES}
 use Rattle.file_table.specs.declared.file_note.FileNote.{FileNote}
 use Rattle.file_table.specs.declared.file_note.FileState.{FileState}
 use Rattle.file_table.specs.declared.fault.NoteFault.{NoteFault}
@@ -34,7 +35,7 @@ noted name note files = insert_entry (slice_cmp nat_cmp) files name note
 -- why a content with this stamp may not be taken: of a known name its stamp must rise, and of new names only so many are taken
 abbrev pub fault_of : ℕ → ℕ → Option FileNote → Option NoteFault
 fault_of stamp count (Some note) = if nat_le stamp note.last then Some (StaleStamp note.last) else None
-fault_of stamp count None = if nat_le 16384 count then Some Full else None
+fault_of stamp count None = if nat_le MOST_FILES count then Some Full else None
 
 -- a fault is the one that is due; want of memory comes only where none is
 abbrev pub IsCause : NoteFault → Option NoteFault → Type 0

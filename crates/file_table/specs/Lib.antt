@@ -1,3 +1,2 @@
 pub mod Files
-pub mod Keys
 pub mod Changes

@@ -5,19 +5,17 @@ ghost use Rattle.std.specs.Result.{is_ok};
 ghost use Rattle.std.specs.List.Sorted.{IsStrictlySortedBy};
 ghost use Rattle.std.specs.Map.{keys_of, set_value};
 ghost use Rattle.std.specs.BTreeMap.{get_by, is_at, UpdatesBy};
-ghost use Rattle.file_table.specs.Keys.{key_cmp, order_of};
+ghost use Rattle.blob_words.specs.Keys.{key_cmp, order_of};
 ghost use Rattle.file_table.specs.Changes.{Notes};
 ghost use Rattle.file_table.specs.Files.{content_of, fault_of, is_readable, note_of, noted, state_of, IsCause};
 
 use crate::fault::{Changed, NoFile, NoteFault};
 use crate::file_note::{FileNote, FileState};
+use blob_words::bounds::MOST_FILES;
 use blob_words::{FileName, NoMemory, Octets};
 use std::alloc::Global;
 use std::collections::BTreeMap;
 use std::marker::Model;
-
-/// How many names a table takes.
-const MOST_FILES: usize = 16_384;
 
 /// The recorded files. Contracts see what is known of each name, in the order of the names.
 #[derive(Debug, Drop)]
@@ -45,7 +43,7 @@ fn clear_at(notes: &mut BTreeMap<Vec<u8>, FileNote>, name: &[u8])
     ensures many { length notes.new.entries ≡ length notes.old.entries }
     ensures ordered { IsStrictlySortedBy key_cmp (keys_of notes.old.entries) }
 {
-    let _count = notes.len();
+    let _count = notes.len(); // says that the keys are in order
     if let Some(note) = notes.get_mut(name) {
         note.clear();
     }

@@ -5,7 +5,7 @@ use Rattle.std.specs.Option.{is_some, is_none, unwrap_or}
 use Rattle.std.proofs.lemmas.List.{take_all, drop_all, take_at, drop_at, take-take, take-append-le, drop-append-le, drop-take, drop-drop, length-take-le, take-append-drop, nil_from_length}
 use Rattle.std.proofs.lemmas.Bool.{cases_lt}
 use Rattle.std.proofs.lemmas.List.Sums.{sum_by-cons, sum_by-set}
-use Rattle.segment_assembly.specs.Assembly.{spliced}
+use Rattle.blob_words.specs.Bytes.{spliced}
 use Rattle.segment_assembly.specs.Slots.{slots}
 
 pub length_slots : (size : ℕ) (came : List Bool) (bytes : List ℕ) → length (slots size came bytes) ≡ length came

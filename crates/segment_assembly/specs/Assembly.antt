@@ -44,7 +44,3 @@ bytes_at bytes span = take span.1 (drop span.0 bytes)
 -- what is sent, cut into the pieces of the parts
 abbrev pub pieces_of : Sending → List (List ℕ)
 pieces_of sending = map (bytes_at (sent sending)) (piece_spans sending.page 0 sending.parts)
-
--- these bytes with others in place of those from a place on
-abbrev pub spliced : ℕ → List ℕ → List ℕ → List ℕ
-spliced start bytes old = take start old ++ (bytes ++ drop (start + length bytes) old)

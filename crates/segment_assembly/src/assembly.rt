@@ -1,12 +1,12 @@
-ghost use Rattle.std.specs.Prelude.{◌≡◌, ◌+◌, ◌≤◌, ◌<◌, length, sum, replicate, slice_set, count_by, Some, None, IfNone, IfOk, OnOk, OnErr, MatchResult};
+ghost use Rattle.std.specs.Prelude.{◌≡◌, ◌<◌, length, sum, replicate, slice_set, count_by, Some, None, IfNone, IfOk, OnOk, OnErr, MatchResult};
 ghost use Rattle.std.specs.Int.{div_ceil};
 ghost use Rattle.std.specs.Option.{is_none};
 ghost use Rattle.segment_assembly.specs.Assembly.{AreSegments, CanTake, segment_fault, pieces_of};
 
-use crate::copies::{none_came, write_at, zeros};
+use crate::copies::{none_came, write_at};
 use crate::pieces::cut_parts;
 use crate::segment_fault::SegmentFault;
-use blob_words::{Limits, NoMemory, Octets, Plan};
+use blob_words::{Limits, NoMemory, Octets, Plan, zeros};
 use std::alloc::Global;
 use std::marker::Model;
 

@@ -1,14 +1,7 @@
 ghost use Rattle.std.specs.Prelude.{◌≡◌, ◌+◌, ◌≤◌, length, replicate, false, IfOk};
-ghost use Rattle.segment_assembly.specs.Assembly.{spliced};
+ghost use Rattle.blob_words.specs.Bytes.{spliced};
 
 use std::alloc::{AllocError, Global};
-
-/// So many bytes, all 0.
-pub fn zeros(alloc: Global, len: usize) -> Result<Vec<u8>, AllocError>
-    ensures { IfOk result (λ bytes. length bytes.items ≡ len) }
-{
-    vec![in alloc; 0u8; len]
-}
 
 /// So many segments of which none has come.
 pub fn none_came(alloc: Global, count: usize) -> Result<Vec<bool>, AllocError>

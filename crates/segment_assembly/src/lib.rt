@@ -2,8 +2,8 @@
 #![tactic(auto)]
 
 pub mod assembly;
-pub mod copies;
-pub mod pieces;
+mod copies;
+mod pieces;
 pub mod segment_fault;
 
 pub use assembly::Assembly;

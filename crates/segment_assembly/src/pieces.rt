@@ -16,7 +16,8 @@ fn cut_part(
 ) -> Result<(), NoMemory>
     requires inside { from + len ≤ length bytes.now }
     requires page { 0 < page }
-    ensures { OnOk result (pieces.new.items ≡ pieces.old.items ++ map (bytes_at bytes.now) (cut_spans page from len)) }
+    ensures { OnOk result (pieces.new.items
+        ≡ pieces.old.items ++ map (bytes_at bytes.now) (cut_spans page from len)) }
 {
     for k in 0..len.div_ceil(page) {
         let start = k * page;
@@ -36,7 +37,8 @@ pub fn cut_parts(
 ) -> Result<Vec<Octets>, NoMemory>
     requires whole { sum parts.now ≡ length bytes.now }
     requires page { 0 < page }
-    ensures { IfOk result (λ pieces. pieces.items ≡ map (bytes_at bytes.now) (piece_spans page 0 parts.now)) }
+    ensures { IfOk result
+        (λ pieces. pieces.items ≡ map (bytes_at bytes.now) (piece_spans page 0 parts.now)) }
 {
     let mut pieces = Vec::new(alloc);
     let mut from = 0;

@@ -6,10 +6,10 @@ use Rattle.std.specs.Str.{bytes_eq}
 use Rattle.std.specs.Map.{lookup}
 use Rattle.std.specs.BTreeMap.{is_at, BTreeMap, UpdatesBy}
 use Rattle.url_store.specs.declared.url.Url.{Url}
-use Rattle.url_store.specs.Keys.{key_cmp, order_of}
+use Rattle.blob_words.specs.Keys.{key_cmp, order_of}
 use Rattle.url_store.specs.Urls.{own_url, owned_by, url_at}
 use Rattle.url_store.specs.Changes.{Comes, Goes}
-use Rattle.url_store.proofs.Seen.{length_seen, lookup_seen, reads_updated, seen}
+use Rattle.blob_words.proofs.Keyed.{length_seen, lookup_seen, reads_updated, seen}
 
 abbrev Keyed : Type 0
 Keyed = BTreeMap (Vec ℕ Global) Url

@@ -1,4 +1,3 @@
-pub mod Keys
 pub mod Urls
 pub mod Owners
 pub mod Changes

@@ -7,6 +7,7 @@ use Rattle.std.specs.Ordering.{nat_cmp}
 use Rattle.std.specs.Cmp.Lexicographic.{slice_cmp}
 use Rattle.std.specs.Map.{lookup, remove_entry}
 use Rattle.std.specs.BTreeMap.{insert_entry}
+use Rattle.blob_words.specs.declared.bounds.TheConstants.{MOST_URLS}
 use Rattle.blob_words.specs.BlobName.{name_text}
 use Rattle.url_store.specs.declared.url.Url.{Url}
 use Rattle.url_store.specs.declared.fault.UrlFault.{UrlFault}
@@ -52,5 +53,5 @@ resolved origin text urls = option_and_then (λ url. if bytes_eq url.origin orig
 abbrev pub IsCause : UrlFault → List ℕ → List ℕ → List (List ℕ × Url) → Type 0
 IsCause Form origin text urls = ¬ (IsBlobUrl origin text)
 IsCause Taken origin text urls = IsBlobUrl origin text × IsSome (url_at text urls)
-IsCause Full origin text urls = IsBlobUrl origin text × (url_at text urls ≡ None) × (16384 ≤ length urls)
-IsCause NoMemory origin text urls = IsBlobUrl origin text × (url_at text urls ≡ None) × (length urls < 16384)
+IsCause Full origin text urls = IsBlobUrl origin text × (url_at text urls ≡ None) × (MOST_URLS ≤ length urls)
+IsCause NoMemory origin text urls = IsBlobUrl origin text × (url_at text urls ≡ None) × (length urls < MOST_URLS)

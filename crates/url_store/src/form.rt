@@ -1,4 +1,4 @@
-ghost use Rattle.std.specs.Prelude.{ℕ, ◌≡◌, ◌≢◌, ◌==◌, ◌^◌, ◌<◌, ◌++◌, List, position, MatchBool, MatchOption};
+ghost use Rattle.std.specs.Prelude.{ℕ, ◌≡◌, ◌≢◌, ◌==◌, ◌<◌, ◌++◌, List, position, MatchBool, MatchOption};
 ghost use Rattle.url_store.specs.Urls.{without_fragment, IsBlobUrl};
 
 use blob_words::BlobName;
@@ -26,8 +26,7 @@ pub fn is_blob_url(origin: &[u8], text: &[u8]) -> bool
     };
     match BlobName::from_text(name) {
         Ok(blob) => {
-            // That it is below 2^128 is a part of what is asked.
-            let _number = blob.number();
+            let _number = blob.number(); // says that it is below 2^128
             true
         }
         Err(_) => false,

@@ -5,9 +5,9 @@ pub mod fault;
 mod form;
 mod owners;
 pub mod store;
-pub mod texts;
+mod texts;
 pub mod url;
-pub mod url_map;
+mod url_map;
 
 pub use fault::{NoUrl, UrlFault};
 pub use store::UrlStore;

@@ -23,7 +23,8 @@ pub fn put_text(
     text: Vec<u8>,
 ) -> Result<(), NoMemory>
     ensures ok { OnOk result ((other : ℕ) → texts_at other owners.new.entries
-        ≡ (if nat_eq other owner then insert_key (slice_cmp nat_cmp) (texts_at other owners.old.entries) text.items
+        ≡ (if nat_eq other owner
+        then insert_key (slice_cmp nat_cmp) (texts_at other owners.old.entries) text.items
         else texts_at other owners.old.entries)) }
     ensures err { OnErr result ((other : ℕ) → texts_at other owners.new.entries
         ≡ texts_at other owners.old.entries) }
@@ -40,7 +41,8 @@ pub fn put_text(
 // Takes a text out of an owner's.
 pub fn take_text(owners: &mut Owners, owner: u32, text: &[u8])
     ensures { (other : ℕ) → texts_at other owners.new.entries
-        ≡ (if nat_eq other owner then remove_key (bytes_eq text.now) (texts_at other owners.old.entries)
+        ≡ (if nat_eq other owner
+        then remove_key (bytes_eq text.now) (texts_at other owners.old.entries)
         else texts_at other owners.old.entries) }
 {
     if let Some(texts) = owners.get_mut(&owner) {

@@ -1,6 +1,7 @@
 ghost use Rattle.std.specs.Prelude.{ℕ, ◌≡◌, ◌<◌, ◌≤◌, List, [], Some, None, is_some, length, slice_get, IfErr, IfNone, IfOk, IfSome, IsSomeAnd, MatchOption, MatchResult, OnErr, OnOk, OnSome};
-ghost use Rattle.std.specs.Option.{option_copied, option_map};
+ghost use Rattle.std.specs.Option.{option_map};
 ghost use Rattle.std.specs.Str.{bytes_eq};
+ghost use Rattle.blob_words.specs.declared.bounds.TheConstants.{MOST_URLS};
 ghost use Rattle.url_store.specs.Urls.{own_url, owned_by, resolved, url_at, with_url, without, without_first, IsBlobUrl, IsCause};
 ghost use Rattle.url_store.specs.Changes.{Comes, Goes, GoesFrom};
 
@@ -9,13 +10,11 @@ use crate::form::{is_blob_url, without_fragment};
 use crate::owners::{Owners, pop_text, put_text, take_text};
 use crate::url::Url;
 use crate::url_map::UrlMap;
+use blob_words::bounds::MOST_URLS;
 use blob_words::{BlobName, NoMemory, Origin, RendererId, UrlText};
 use std::alloc::Global;
 use std::collections::BTreeMap;
 use std::marker::Model;
-
-/// How many URLs a store takes.
-const MOST_URLS: usize = 16_384;
 
 /// The blob URLs. Contracts see them by their texts, in the order of the texts.
 #[derive(Debug, Drop)]
@@ -28,6 +27,7 @@ pub struct UrlStore {
 
 impl Model for UrlStore {
     ghost use Rattle.std.specs.Prelude.{ℕ, ◌≤◌, List, length};
+    ghost use Rattle.blob_words.specs.declared.bounds.TheConstants.{MOST_URLS};
     ghost use Rattle.url_store.specs.declared.url.Url.{Url};
     ghost use Rattle.url_store.specs.Owners.{Agree};
 
@@ -36,7 +36,7 @@ impl Model for UrlStore {
     ghost view = { λ store. store.urls };
 
     ghost invariant = { λ store. Agree store.urls store.owners.entries
-        × (length store.urls ≤ 16384) };
+        × (length store.urls ≤ MOST_URLS) };
 }
 
 fn is_same(one: &[u8], other: &[u8]) -> bool
@@ -60,7 +60,7 @@ impl UrlStore {
     /// How many URLs there are.
     pub fn count(&self) -> usize
         ensures value { result ≡ length self.now }
-        ensures most { result ≤ 16384 }
+        ensures most { result ≤ MOST_URLS }
     {
         self.urls.len()
     }
@@ -68,7 +68,7 @@ impl UrlStore {
     // Puts a URL under a text that has none.
     fn put(&mut self, text: &UrlText, url: Url) -> Result<(), NoMemory>
         requires absent { url_at text.now self.old ≡ None }
-        requires room { length self.old < 16384 }
+        requires room { length self.old < MOST_URLS }
         ensures ok { OnOk result (self.new ≡ with_url text.now url self.old) }
         ensures comes { OnOk result (Comes text.now url self.old self.new) }
         ensures err { OnErr result (self.new ≡ self.old) }
@@ -97,7 +97,7 @@ impl UrlStore {
         ensures comes { OnOk result (Comes text.now
             (record { blob = blob; owner = owner; origin = origin.now }) self.old self.new) }
         ensures none_due { OnOk result (IsBlobUrl origin.now text.now
-            × (url_at text.now self.old ≡ None) × (length self.old < 16384)) }
+            × (url_at text.now self.old ≡ None) × (length self.old < MOST_URLS)) }
         ensures fault { IfErr result (λ fault. (self.new ≡ self.old)
             × IsCause fault origin.now text.now self.old) }
     {

@@ -1,4 +1,4 @@
-ghost use Rattle.std.specs.Prelude.{ℕ, ◌≡◌, [], None, length, OnErr, OnOk, OnSome};
+ghost use Rattle.std.specs.Prelude.{◌≡◌, [], None, length, OnErr, OnOk, OnSome};
 ghost use Rattle.std.specs.Option.{option_copied};
 ghost use Rattle.std.specs.List.Sorted.{IsStrictlySortedBy};
 ghost use Rattle.std.specs.Ordering.{nat_cmp};
@@ -61,7 +61,7 @@ impl UrlMap {
         ensures err { OnErr result (self.new ≡ self.old) }
         ensures ordered { IsStrictlySortedBy (slice_cmp nat_cmp) (keys_of self.old) }
     {
-        let _count = self.urls.len();
+        let _count = self.urls.len(); // says that the keys are in order
         self.urls.insert(text, url)?;
         Ok(())
     }
@@ -73,7 +73,7 @@ impl UrlMap {
         ensures goes { OnSome result (Goes text.now self.old self.new) }
         ensures ordered { IsStrictlySortedBy (slice_cmp nat_cmp) (keys_of self.old) }
     {
-        let _count = self.urls.len();
+        let _count = self.urls.len(); // says that the keys are in order
         self.urls.remove(text)
     }
 }

@@ -1,6 +1,6 @@
 use Rattle.std.proofs.Common.{ap, ◌∙◌}
 use Rattle.file_table.specs.Files.{note_of}
-use Rattle.file_table.proofs.Names.{lookup_seen}
+use Rattle.blob_words.proofs.Keyed.{lookup_seen}
 use Rattle.file_table.proofs.table.FileTable.find.Goals as goal
 
 pub returns : goal.returns

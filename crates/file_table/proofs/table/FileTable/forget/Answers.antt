@@ -2,7 +2,7 @@ use Rattle.std.proofs.Common.{◌≡◌, ℕ, true, None, List, subst, sym, rule
 use Rattle.std.specs.Prelude.{is_some, IfSome, IsSome, IsSomeAnd}
 use Rattle.file_table.specs.declared.file_note.FileNote.{FileNote}
 use Rattle.file_table.specs.Files.{note_of, noted, state_of}
-use Rattle.file_table.proofs.Names.{seen}
+use Rattle.blob_words.proofs.Keyed.{seen}
 use Rattle.file_table.specs.Changes.{Notes}
 use Rattle.file_table.proofs.Forgotten.{forgotten_seen}
 use Rattle.file_table.proofs.Noted.{notes_forgotten}

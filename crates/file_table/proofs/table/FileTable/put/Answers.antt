@@ -1,7 +1,7 @@
 use Rattle.std.proofs.Common.{◌≡◌, ℕ, List, Some, ap, ◌∙◌, refl, subst}
 use Rattle.file_table.specs.declared.file_note.FileNote.{FileNote}
 use Rattle.file_table.specs.Changes.{Notes}
-use Rattle.file_table.proofs.Names.{insert_seen, seen}
+use Rattle.blob_words.proofs.Keyed.{insert_seen, seen}
 use Rattle.file_table.proofs.Noted.{notes_put}
 use Rattle.file_table.proofs.table.FileTable.put.Goals as goal
 

@@ -1,6 +1,6 @@
 use Rattle.std.proofs.Common.{ap, ◌∙◌}
 use Rattle.url_store.specs.Urls.{url_at}
-use Rattle.url_store.proofs.Seen.{lookup_seen}
+use Rattle.blob_words.proofs.Keyed.{lookup_seen}
 use Rattle.url_store.proofs.url_map.UrlMap.find.Goals as goal
 
 pub returns : goal.returns

@@ -7,7 +7,8 @@ use Rattle.url_store.specs.declared.url.Url.{Url}
 use Rattle.url_store.specs.Urls.{url_at, with_url}
 use Rattle.url_store.specs.Changes.{Comes}
 use Rattle.url_store.proofs.Changed.{comes_seen}
-use Rattle.url_store.proofs.Seen.{insert_seen, seen, sorted_seen}
+use Rattle.blob_words.proofs.Keyed.{insert_seen, seen}
+use Rattle.url_store.proofs.Seen.{sorted_seen}
 use Rattle.url_store.proofs.url_map.UrlMap.insert.Goals as goal
 
 pub returns-clause-ok : goal.returns-clause-ok

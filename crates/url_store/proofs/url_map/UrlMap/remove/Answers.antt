@@ -8,7 +8,8 @@ use Rattle.std.specs.Prelude.{OnSome}
 use Rattle.url_store.specs.Urls.{url_at, without}
 use Rattle.url_store.specs.Changes.{Goes}
 use Rattle.url_store.proofs.Changed.{goes_seen}
-use Rattle.url_store.proofs.Seen.{lookup_seen, remove_seen, seen, sorted_seen}
+use Rattle.blob_words.proofs.Keyed.{lookup_seen, seen}
+use Rattle.url_store.proofs.Seen.{remove_seen, sorted_seen}
 use Rattle.url_store.proofs.url_map.UrlMap.remove.Goals as goal
 
 pub returns-clause-value : goal.returns-clause-value
