@@ -1,7 +1,7 @@
 //! Views on items, and the lists of views of which a blob is made.
 #![tactic(auto)]
 
-pub mod starts;
+mod starts;
 pub mod view;
 pub mod view_list;
 

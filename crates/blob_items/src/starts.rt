@@ -10,7 +10,8 @@ use crate::view::View;
 pub fn begun(starts: &[u64], off: u64) -> usize
     requires { IsPartitionedBy (λ start. nat_le start off) starts.now }
     ensures bound { result ≤ length starts.now }
-    ensures point { IsPartitionPoint (λ start. nat_le start off ≡ true) (λ start. nat_le start off ≡ false) starts.now result }
+    ensures point { IsPartitionPoint (λ start. nat_le start off ≡ true)
+        (λ start. nat_le start off ≡ false) starts.now result }
 {
     starts.partition_point(|start| *start <= off)
 }

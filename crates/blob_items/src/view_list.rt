@@ -28,8 +28,8 @@ impl Model for ViewList {
 
     ghost view = { λ list. list.views.items };
 
-    ghost invariant = { λ list.
-        (list.starts.items ≡ starts_from 0 list.views.items) × (list.size ≡ total list.views.items) };
+    ghost invariant = { λ list. (list.starts.items ≡ starts_from 0 list.views.items)
+        × (list.size ≡ total list.views.items) };
 }
 
 impl ViewList {

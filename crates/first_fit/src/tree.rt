@@ -1,4 +1,4 @@
-ghost use Rattle.std.specs.Prelude.{ℕ, ◌≡◌, ◌+◌, ◌*◌, ◌^◌, ◌<◌, ◌≤◌, [], drop, length, nat_le, set, slice_index, take, IfOk, OnErr, OnOk};
+ghost use Rattle.std.specs.Prelude.{◌≡◌, ◌+◌, ◌*◌, ◌^◌, ◌<◌, ◌≤◌, [], drop, length, nat_le, set, slice_index, take, IfOk, OnErr, OnOk};
 ghost use Rattle.std.specs.List.{position_or_len};
 ghost use Rattle.first_fit.specs.Tree.{IsPower, IsTree};
 

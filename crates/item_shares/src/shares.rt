@@ -115,8 +115,8 @@ impl Shares {
     /// Says that the piece of a slot is now in a page file, from `off` on. Its bytes in memory go.
     pub fn turn_paged(&mut self, slot: usize, page: PageNo, off: u64)
         requires { IsSomeAnd (item_at self.old slot) HoldsPiece }
-        ensures { IfSome (share_at self.old slot) (λ share.
-            Changes self.old self.new slot (Some (share_of (paged_item share.item page off) share.count))) }
+        ensures { IfSome (share_at self.old slot) (λ share. Changes self.old self.new slot
+            (Some (share_of (paged_item share.item page off) share.count))) }
     {
         let Some(share) = self.slots.get_mut(slot) else {
             return;

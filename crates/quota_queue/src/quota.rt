@@ -1,4 +1,4 @@
-ghost use Rattle.std.specs.Prelude.{ℕ, ◌≡◌, ◌+◌, ◌-◌, ◌^◌, ◌<◌, ◌≤◌, ◌++◌, ◌==◌, [], ◌∷◌, false, drop, length, nat_eq, nat_le, slice_get, IfNone, IfOk, IfSome, IsSomeAnd, OnErr, OnOk};
+ghost use Rattle.std.specs.Prelude.{◌≡◌, ◌+◌, ◌-◌, ◌^◌, ◌<◌, ◌≤◌, ◌++◌, ◌==◌, [], ◌∷◌, false, drop, length, nat_eq, nat_le, slice_get, IfNone, IfOk, IfSome, IsSomeAnd, OnErr, OnOk};
 ghost use Rattle.std.specs.List.{IsDistinct, position};
 ghost use Rattle.std.specs.Map.{keys_of};
 ghost use Rattle.quota_queue.specs.Queue.{is_waiting, without};
@@ -131,7 +131,8 @@ impl Quota {
     #[tactic(auto, using(crate::proofs::Waiting::apart_rest))]
     pub fn next_grant(&mut self) -> Option<BlobName>
         ensures none { IfNone result ((self.new ≡ self.old)
-            × IfSome (slice_get self.old.waiting 0) (λ blob. self.old.limit < self.old.used + blob.1)) }
+            × IfSome (slice_get self.old.waiting 0)
+            (λ blob. self.old.limit < self.old.used + blob.1)) }
         ensures some { IfSome result (λ name. IsSomeAnd (slice_get self.old.waiting 0) (λ blob.
             (blob.0 ≡ name) × (self.old.used + blob.1 ≤ self.old.limit)
             × (self.new ≡ record self.old {
