@@ -1,4 +1,4 @@
-ghost use Rattle.std.specs.Prelude.{◌≡◌, ◌+◌, ◌-◌, ◌^◌, ◌<◌, ◌≤◌, ◌++◌, [], true, Some, None, drop, if◌then◌else◌, is_some, length, map, min, sum_by, take, vec_len, IfOk, IfSome, IsErrOf, IsSomeAnd, MatchResult, OnErr, OnOk};
+ghost use Rattle.std.specs.Prelude.{◌≡◌, ◌+◌, ◌-◌, ◌^◌, ◌<◌, ◌≤◌, ◌++◌, [], true, Some, None, drop, if◌then◌else◌, is_some, length, map, min, take, vec_len, IfOk, IfSome, IsErrOf, IsSomeAnd, MatchResult, OnErr, OnOk};
 ghost use Rattle.std.specs.List.{list_all};
 ghost use Rattle.blob_source.specs.Faults.{Rose};
 ghost use Rattle.page_disk.specs.declared.change.Change.TheVariants.{Torn, Remove, Left};
@@ -9,6 +9,7 @@ ghost use Rattle.page_volumes.specs.Kept.{new_log, HasRoom};
 ghost use Rattle.page_volumes.specs.Invariants.{Keeps};
 ghost use Rattle.page_volumes.specs.Plain.{plain};
 ghost use Rattle.std.proofs.Props.{props};
+ghost use Rattle.blob_words.specs.declared.bounds.TheConstants.{LONGEST_APPEND};
 ghost use Rattle.page_volumes.specs.Seen.{is_fresh};
 ghost use Rattle.page_volumes.specs.Sound.{came_of, changes_of, faults_of, writing_of};
 
@@ -98,7 +99,7 @@ impl<V: Volume> Array<V> {
         requires fits { IsSomeAnd (writing_of (of_array V.seen self.old))
             (λ write. write.came + length bytes.now ≤ write.len) }
         requires some { 0 < length bytes.now }
-        requires most { length bytes.now ≤ 65536 }
+        requires most { length bytes.now ≤ LONGEST_APPEND }
         ensures act { Appends bytes.now (of_array V.seen self.old) result
             (of_array V.seen self.new) }
         ensures ok { OnOk result ((writing_of (of_array V.seen self.new)

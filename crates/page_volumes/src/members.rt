@@ -1,5 +1,6 @@
-ghost use Rattle.std.specs.Prelude.{◌≡◌, ◌+◌, ◌<◌, ◌≤◌, true, length, option_and_then, Some, None, Ok, IfSome, IsSome, IsSomeAnd, OnOk};
+ghost use Rattle.std.specs.Prelude.{◌≡◌, ◌+◌, ◌<◌, ◌≤◌, true, length, Some, None, Ok, IfSome, IsSomeAnd, OnOk};
 ghost use Rattle.std.specs.Option.{option_map};
+ghost use Rattle.blob_words.specs.declared.bounds.TheConstants.{LONGEST_APPEND};
 ghost use Rattle.page_volumes.specs.Seen.{HasBytes, HasNone};
 ghost use Rattle.page_volumes.specs.Plain.{log_of, open_of};
 ghost use Rattle.page_volumes.specs.Kept.{CanFile, CanRemove, HasRoom};
@@ -119,7 +120,7 @@ impl<V: Volume> Members<V> {
         requires fits { IsSomeAnd self.old.write
             (λ write. write.came + length bytes.now ≤ write.len) }
         requires some { 0 < length bytes.now }
-        requires most { length bytes.now ≤ 65536 }
+        requires most { length bytes.now ≤ LONGEST_APPEND }
         requires room { HasRoom self.old.files self.old.write self.old.log }
         ensures act { Appends bytes.now (of_members V.seen self.old) result
             (of_members V.seen self.new) }

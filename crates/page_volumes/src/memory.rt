@@ -1,5 +1,6 @@
 ghost use Rattle.std.specs.Prelude.{◌≡◌, ◌+◌, ◌<◌, ◌≤◌, true, false, None, length, IsErrOf, IsSomeAnd, OnErr, OnOk};
 ghost use Rattle.std.specs.Result.{is_err};
+ghost use Rattle.blob_words.specs.declared.bounds.TheConstants.{LONGEST_APPEND};
 ghost use Rattle.blob_source.specs.Memory.{is_listed};
 ghost use Rattle.page_volumes.specs.Seen.{begun, longer, open_page, put, removed, torn, Appends, Begins, Gets, HasBytes, HasFile, HasNone, Removes, Seals};
 ghost use Rattle.page_volumes.specs.Memory.{missed, new_store, passed};
@@ -8,6 +9,7 @@ use crate::incoming::Incoming;
 use crate::shelf::Shelf;
 use crate::volume::Volume;
 use crate::writing::Writing;
+use blob_source::Schedule;
 use blob_words::{Failed, Octets64, PageNo};
 use page_disk::PutFault;
 use std::alloc::Global;
@@ -21,8 +23,7 @@ pub struct MemoryVolume {
     shelf: Shelf,
     incoming: Incoming,
     write: Option<Writing>,
-    failing: Octets64,
-    calls: u64,
+    schedule: Schedule,
     faults: u64,
 }
 
@@ -46,8 +47,8 @@ impl Model for MemoryVolume {
         });
         faults = volume.faults;
       };
-      failing = volume.failing;
-      calls = volume.calls;
+      failing = volume.schedule.failing;
+      calls = volume.schedule.calls;
     } };
 
     // There is room for the file of the open write, and for the bytes to come.
@@ -64,18 +65,10 @@ impl MemoryVolume {
             shelf: Shelf::new(alloc),
             incoming: Incoming::new(alloc),
             write: None,
-            failing,
-            calls: 0,
+            schedule: Schedule::new(failing),
             faults: 0,
         }
     }
-}
-
-// Whether the call of this number is to fail.
-fn is_listed(failing: &Octets64, call: u64) -> bool
-    ensures { result ≡ is_listed failing.now call }
-{
-    failing.as_slice().contains(&call)
 }
 
 impl Volume for MemoryVolume {
@@ -104,8 +97,7 @@ impl Volume for MemoryVolume {
         if self.shelf.prepare().is_err() || self.incoming.prepare(len).is_err() {
             return Err(PutFault::NoMemory);
         }
-        let is_failing = is_listed(&self.failing, self.calls);
-        self.calls = self.calls.saturating_add(1);
+        let is_failing = self.schedule.fails_next();
         self.incoming.clear();
         if is_failing {
             self.shelf.push(page, None);
@@ -120,7 +112,7 @@ impl Volume for MemoryVolume {
         requires fits { IsSomeAnd self.old.seen.write
             (λ write. write.came + length bytes.now ≤ write.len) }
         requires some { 0 < length bytes.now }
-        requires most { length bytes.now ≤ 65536 }
+        requires most { length bytes.now ≤ LONGEST_APPEND }
         ensures act { Appends bytes.now self.old.seen result self.new.seen }
         ensures later { self.old.seen.faults ≤ self.new.seen.faults }
 
@@ -166,8 +158,7 @@ impl Volume for MemoryVolume {
         ensures read { OnOk result (self.new ≡ passed self.old.seen self.old) }
         ensures unread { OnErr result (self.new ≡ missed self.old.seen self.old) }
     {
-        let is_failing = is_listed(&self.failing, self.calls);
-        self.calls = self.calls.saturating_add(1);
+        let is_failing = self.schedule.fails_next();
         if is_failing {
             self.faults = self.faults.saturating_add(1);
             return Err(Failed);
@@ -187,8 +178,7 @@ impl Volume for MemoryVolume {
         ensures removed { OnOk result (self.new ≡ passed (removed page.0 self.old.seen) self.old) }
         ensures left { OnErr result (self.new ≡ missed self.old.seen self.old) }
     {
-        let is_failing = is_listed(&self.failing, self.calls);
-        self.calls = self.calls.saturating_add(1);
+        let is_failing = self.schedule.fails_next();
         if is_failing {
             self.faults = self.faults.saturating_add(1);
             return Err(Failed);

@@ -1,4 +1,5 @@
-ghost use Rattle.std.specs.Prelude.{◌≡◌, ◌+◌, ◌<◌, ◌≤◌, false, is_some, length, Some, None, IsSomeAnd};
+ghost use Rattle.std.specs.Prelude.{◌≡◌, ◌+◌, ◌<◌, ◌≤◌, false, length, Some, None, IsSomeAnd};
+ghost use Rattle.blob_words.specs.declared.bounds.TheConstants.{LONGEST_APPEND};
 ghost use Rattle.page_volumes.specs.Seen.{Appends, Begins, Gets, HasBytes, HasFile, HasNone, Removes, Seals};
 
 use crate::volume::Volume;
@@ -48,7 +49,7 @@ impl<V: Volume> Place<V> {
         requires fits { IsSomeAnd (slot_of V.seen self.old).object
             (λ seen. IsSomeAnd seen.write (λ write. write.came + length bytes.now ≤ write.len)) }
         requires some { 0 < length bytes.now }
-        requires most { length bytes.now ≤ 65536 }
+        requires most { length bytes.now ≤ LONGEST_APPEND }
         ensures act { ActsAt (slot_of V.seen self.old) (slot_of V.seen self.new)
             (λ old new. Appends bytes.now old result new) }
     {

@@ -1,4 +1,5 @@
-ghost use Rattle.std.specs.Prelude.{◌≡◌, ◌+◌, ◌<◌, ◌≤◌, false, true, not, is_some, length, map, option_and_then, vec_len, None, IfOk, IfSome, IsSomeAnd};
+ghost use Rattle.std.specs.Prelude.{◌≡◌, ◌+◌, ◌<◌, ◌≤◌, false, true, is_some, length, map, option_and_then, vec_len, None, IfOk, IfSome, IsSomeAnd};
+ghost use Rattle.blob_words.specs.declared.bounds.TheConstants.{LONGEST_APPEND};
 ghost use Rattle.page_volumes.specs.declared.bounds.TheConstants.{MOST_VOLUMES};
 ghost use Rattle.page_volumes.specs.Seen.{Appends, Begins, Gets, HasBytes, HasFile, HasNone, Removes, Seals};
 
@@ -18,7 +19,7 @@ pub struct Places<V> {
 }
 
 impl<V: Volume> Places<V> {
-    ghost use Rattle.page_volumes.specs.Group.{changed_at, count_at, is_one_of_several, is_retired_at, let_go, new_slots, object_at, retired, settled, slot_count, takes_writes, writer_of, writer_retired};
+    ghost use Rattle.page_volumes.specs.Group.{changed_at, is_one_of_several, is_retired_at, let_go, new_slots, object_at, retired, settled, slot_count, takes_writes, writer_of, writer_retired};
     ghost use Rattle.page_volumes.specs.Acts.{Acts, CanRemoveAt, SweepsAt};
     ghost use Rattle.page_volumes.specs.Plain.{of_places};
     ghost use Rattle.std.specs.Prelude.{sum_by};
@@ -79,7 +80,7 @@ impl<V: Volume> Places<V> {
         requires fits { IsSomeAnd (object_at (of_places V.seen self.old) k)
             (λ seen. IsSomeAnd seen.write (λ write. write.came + length bytes.now ≤ write.len)) }
         requires some { 0 < length bytes.now }
-        requires most { length bytes.now ≤ 65536 }
+        requires most { length bytes.now ≤ LONGEST_APPEND }
         ensures act { Acts k (of_places V.seen self.old) (of_places V.seen self.new)
             (λ old new. Appends bytes.now old result new) }
     {

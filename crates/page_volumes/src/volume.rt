@@ -1,4 +1,5 @@
 ghost use Rattle.std.specs.Prelude.{◌≡◌, ◌+◌, ◌<◌, ◌≤◌, None, length, IsSomeAnd};
+ghost use Rattle.blob_words.specs.declared.bounds.TheConstants.{LONGEST_APPEND};
 ghost use Rattle.page_volumes.specs.Seen.{Appends, Begins, Gets, HasBytes, HasFile, HasNone, Removes, Seals, Seen};
 
 use blob_words::{Failed, PageNo};
@@ -30,7 +31,7 @@ pub trait Volume: Drop {
         requires fits { IsSomeAnd (seen self.old).write
             (λ write. write.came + length bytes.now ≤ write.len) }
         requires some { 0 < length bytes.now }
-        requires most { length bytes.now ≤ 65536 }
+        requires most { length bytes.now ≤ LONGEST_APPEND }
         ensures act { Appends bytes.now (seen self.old) result (seen self.new) }
         ensures later { (seen self.old).faults ≤ (seen self.new).faults };
 

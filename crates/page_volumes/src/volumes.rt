@@ -1,5 +1,6 @@
-ghost use Rattle.std.specs.Prelude.{◌≡◌, ◌+◌, ◌-◌, ◌^◌, ◌<◌, ◌≤◌, ◌++◌, [], true, false, Some, None, drop, if◌then◌else◌, is_some, length, map, min, sum_by, take, vec_len, IfOk, IfSome, IsErrOf, IsSomeAnd, MatchResult, OnErr, OnOk};
+ghost use Rattle.std.specs.Prelude.{◌≡◌, ◌+◌, ◌-◌, ◌^◌, ◌<◌, ◌≤◌, ◌++◌, [], true, false, Some, None, drop, is_some, length, map, min, take, vec_len, IfOk, IfSome, IsErrOf, IsSomeAnd, MatchResult, OnErr, OnOk};
 ghost use Rattle.std.specs.List.{list_all};
+ghost use Rattle.blob_words.specs.declared.bounds.TheConstants.{LONGEST_APPEND};
 ghost use Rattle.blob_source.specs.Faults.{Rose};
 ghost use Rattle.page_disk.specs.declared.change.Change.TheVariants.{Torn, Remove, Left};
 ghost use Rattle.page_disk.specs.Changes.{with_change, with_more, with_put, with_torn, last_put, HasRange, IsNew, Stands};
@@ -173,7 +174,7 @@ impl PageDisk for Volumes {
         requires fits { IsSomeAnd (writing_of (of_volumes ⟦<BoxedVolume as Volume>⟧.seen self.old))
             (λ write. write.came + length bytes.now ≤ write.len) }
         requires some { 0 < length bytes.now }
-        requires most { length bytes.now ≤ 65536 }
+        requires most { length bytes.now ≤ LONGEST_APPEND }
         ensures act { Appends bytes.now (of_volumes ⟦<BoxedVolume as Volume>⟧.seen self.old) result
             (of_volumes ⟦<BoxedVolume as Volume>⟧.seen self.new) }
         ensures ok { OnOk result ((writing_of (of_volumes ⟦<BoxedVolume as Volume>⟧.seen self.new)
