@@ -2,6 +2,7 @@
 use Rattle.std.specs.Prelude.{ℕ, ◌≡◌, ◌^◌, ◌<◌, ◌≤◌, true, List, [], ◌∷◌, IfSome, FitsSigned, length, map, decimal}
 use Rattle.std.specs.Int.{w64}
 use Rattle.std.specs.List.{AllByRecursion}
+use Rattle.blob_words.specs.declared.bounds.TheConstants.{MOST_PARTS}
 use Rattle.hex.specs.Hex.{IsBytes}
 use Rattle.blob_words.specs.BlobName.{name_text}
 use Rattle.blob_words.specs.FileName.{is_file_name}
@@ -106,7 +107,7 @@ PartHasText (parts.FileRange name off len stamp) = (is_file_name name ≡ true) 
 PartHasText (parts.BlobRange b off len) = (b < 2 ^ 128) × (off < 2 ^ 64) × (len < 2 ^ 64)
 PartHasText (parts.HandleRange k off len) = (k < 2 ^ 32) × (off < 2 ^ 64) × (1 ≤ len) × (len < 2 ^ 64)
 
--- an event that has a line: its numbers, names and bytes are in range, and it has at most 1,024 parts
+-- an event that has a line: its numbers, names and bytes are in range, and it has so many parts at most
 abbrev pub HasSpelling : Event → Type 0
 HasSpelling (events.Limits l) = Unit {0}
 HasSpelling (events.Limits2 l) = Unit {0}
@@ -114,7 +115,7 @@ HasSpelling (events.Spawn r origin) = (r.0 < 2 ^ 32) × (is_origin origin ≡ tr
 HasSpelling (events.Die r) = r.0 < 2 ^ 32
 HasSpelling (events.File name stamp bytes) = (is_file_name name ≡ true) × (stamp < 2 ^ 64) × IsBytes bytes
 HasSpelling (events.Gone name) = is_file_name name ≡ true
-HasSpelling (events.Build r b kind parts) = (r.0 < 2 ^ 32) × (b < 2 ^ 128) × IsContentType kind × (length parts ≤ 1024) × AllByRecursion PartHasText parts
+HasSpelling (events.Build r b kind parts) = (r.0 < 2 ^ 32) × (b < 2 ^ 128) × IsContentType kind × (length parts ≤ MOST_PARTS) × AllByRecursion PartHasText parts
 HasSpelling (events.Slice r b src start end kind) = (r.0 < 2 ^ 32) × (b < 2 ^ 128) × (src < 2 ^ 128) × IfSome start (λ z. FitsSigned w64 z) × IfSome end (λ z. FitsSigned w64 z) × IsContentType kind
 HasSpelling (events.Segment r b seg bytes) = (r.0 < 2 ^ 32) × (b < 2 ^ 128) × (seg < 2 ^ 32) × IsBytes bytes
 HasSpelling (events.Pass r to b) = (r.0 < 2 ^ 32) × (to.0 < 2 ^ 32) × (b < 2 ^ 128)

@@ -11,6 +11,7 @@ ghost use Rattle.text_fields.specs.declared.line_fault.LineFault.TheVariants.{Me
 use crate::event::Event;
 use crate::part::read_parts;
 use crate::word::Word;
+use blob_words::bounds::MOST_PARTS;
 use blob_words::{
     BlobName, FileName, JobNo, Limits, Octets, Origin, ReaderId, RendererId, UrlText,
 };
@@ -19,9 +20,6 @@ use text_fields::LineFault;
 use text_fields::field::ContentType;
 use text_fields::fields::Fields;
 use text_fields::row::Row;
-
-/// The most parts of a blob.
-const MAX_PARTS: usize = 1024;
 
 fn read_numbers(alloc: Global, fields: &mut Fields<'_>) -> Result<Limits, LineFault>
     ensures { IsReading IsLimitsFault (λ _. Unit {0}) (λ limits. map decimal (limit_numbers limits)) fields.old result }
@@ -60,7 +58,7 @@ fn read_build(alloc: Global, fields: &mut Fields<'_>) -> Result<Event, LineFault
     ensures { ReadsEvent Word.Build fields.old result }
 {
     let count = fields.count();
-    if count < 3 || count > 3 + MAX_PARTS {
+    if count < 3 || count > 3 + MOST_PARTS {
         return Err(LineFault::Fields);
     }
     let (r, b, kind) = match <(RendererId, BlobName, ContentType)>::read(alloc, fields) {
