@@ -1,5 +1,5 @@
 -- What reads and writes of pages leave on a disk. Own.
-use Rattle.std.specs.Prelude.{ℕ, ◌≡◌, ◌+◌, List, [], ◌++◌, drop, length, take, Option, Result, Ok, Err}
+use Rattle.std.specs.Prelude.{ℕ, ◌≡◌, List, [], drop, take, Option, Result, Ok, Err}
 use Rattle.std.specs.Option.{option_map_or}
 use Rattle.std.specs.List.{flat_map}
 use Rattle.blob_words.specs.declared.number.PageNo.{PageNo}
@@ -24,7 +24,3 @@ range_of page changes held = option_map_or (λ bytes. take held.len (drop held.o
 -- the bytes of pieces in a page, one after the other
 abbrev pub read_of : PageNo → List Change → List Held → List ℕ
 read_of page changes pieces = flat_map (range_of page changes) pieces
-
--- the bytes in place of those that stand from a place on
-abbrev pub spliced : ℕ → List ℕ → List ℕ → List ℕ
-spliced start bytes buffer = take start buffer ++ bytes ++ drop (start + length bytes) buffer

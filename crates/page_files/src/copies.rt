@@ -1,9 +1,9 @@
-ghost use Rattle.std.specs.Prelude.{◌≡◌, ◌^◌, ◌<◌, length, map, IfOk};
+ghost use Rattle.std.specs.Prelude.{◌≡◌, ◌^◌, ◌<◌, map, IfOk};
 ghost use Rattle.page_files.specs.Pieces.{bytes_of, names, named, placed};
 
 use crate::held::Held;
 use blob_words::{NoMemory, PieceList, PieceNo};
-use std::alloc::{AllocError, Global};
+use std::alloc::Global;
 
 // Pieces with their slots and lengths, as those of a job.
 pub fn named(alloc: Global, pieces: &[(PieceNo, usize, u64)]) -> Result<Vec<Held>, NoMemory>
@@ -44,11 +44,4 @@ pub fn names(alloc: Global, pieces: &[Held]) -> Result<PieceList, NoMemory>
         list.push(held.piece)?;
     }
     Ok(list)
-}
-
-// So many bytes, all 0.
-pub fn zeros(alloc: Global, len: usize) -> Result<Vec<u8>, AllocError>
-    ensures { IfOk result (λ bytes. length bytes.items ≡ len) }
-{
-    vec![in alloc; 0u8; len]
 }

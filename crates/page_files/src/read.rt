@@ -1,13 +1,13 @@
 ghost use Rattle.std.specs.Prelude.{◌≡◌, ◌+◌, ◌-◌, ◌^◌, ◌≤◌, None, length, min, IfSome, IfOk, IsErrOf, OnErr, OnOk};
 ghost use Rattle.std.specs.List.{AllByRecursion};
+ghost use Rattle.blob_words.specs.Bytes.{spliced};
 ghost use Rattle.blob_source.specs.Faults.{Rose};
 ghost use Rattle.page_disk.specs.Changes.{HasRange};
 ghost use Rattle.page_files.specs.Pieces.{bytes_of};
-ghost use Rattle.page_files.specs.Writes.{range_of, read_of, spliced};
+ghost use Rattle.page_files.specs.Writes.{range_of, read_of};
 
-use crate::copies::zeros;
 use crate::held::Held;
-use blob_words::{Failed, PageNo};
+use blob_words::{Failed, PageNo, zeros};
 use page_disk::PageDisk;
 use std::alloc::Global;
 

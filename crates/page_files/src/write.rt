@@ -7,12 +7,10 @@ ghost use Rattle.page_files.specs.Items.{bytes_in, IsMemoryIn};
 ghost use Rattle.page_files.specs.Writes.{Wrote};
 
 use crate::held::Held;
+use blob_words::bounds::LONGEST_APPEND;
 use blob_words::{Failed, PageNo};
 use item_shares::{Item, Shares};
 use page_disk::{PageDisk, PutFault};
-
-/// The most bytes that are appended at once.
-const RUN: usize = 65_536;
 
 // Appends the bytes in runs.
 fn append_all<D: PageDisk>(disk: &mut D, bytes: &[u8]) -> Result<(), Failed>
@@ -29,7 +27,7 @@ fn append_all<D: PageDisk>(disk: &mut D, bytes: &[u8]) -> Result<(), Failed>
 {
     let mut rest = bytes;
     while !rest.is_empty() {
-        let (run, after) = rest.split_at(rest.len().min(RUN));
+        let (run, after) = rest.split_at(rest.len().min(LONGEST_APPEND));
         match disk.append(run) {
             Ok(()) => rest = after,
             Err(Failed) => return Err(Failed),

@@ -1,5 +1,5 @@
 -- The segments of a shared plan, what is sent by them, and the pieces of it. Own.
-use Rattle.std.specs.Prelude.{ℕ, ◌≡◌, ◌<◌, ◌+◌, ◌==◌, false, List, [], ◌++◌, Option, Some, None, length, map, sum, take, drop, flat_map, nat_le, slice_index_or, if◌then◌else◌, IfSome}
+use Rattle.std.specs.Prelude.{ℕ, ◌≡◌, ◌<◌, ◌==◌, false, List, [], Option, Some, None, length, map, sum, take, drop, flat_map, nat_le, slice_index_or, if◌then◌else◌, IfSome}
 use Rattle.std.specs.Int.{div_ceil}
 use Rattle.std.specs.Option.{is_some, unwrap_or}
 use Rattle.segment_assembly.specs.declared.segment_fault.SegmentFault.{SegmentFault}
