@@ -2,3 +2,4 @@ pub mod Handles
 pub mod Table
 pub mod Slots
 pub mod Boxes
+pub mod Calls

@@ -19,7 +19,8 @@ pub trait DataHandle: Drop {
     fn faults(&self) -> u64
         ensures { result ≡ (seen self.now).faults };
 
-    /// Fills `out` with the bytes from `off` on. The count rises where this fails, and nowhere else.
+    /// Fills `out` with the bytes from `off` on. The count rises where this fails, and nowhere
+    /// else.
     fn read(&mut self, off: u64, out: &mut [u8]) -> Result<(), Failed>
         requires { off + length out.old ≤ (seen self.old).size }
         ensures same { seen self.new ≡ with_faults (seen self.old) (seen self.new).faults }

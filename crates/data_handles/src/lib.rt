@@ -6,8 +6,8 @@ pub mod fault;
 pub mod file;
 pub mod handle;
 pub mod memory;
-pub mod place;
-pub mod slots;
+mod place;
+mod slots;
 pub mod table;
 
 pub use boxed::Boxed;

@@ -5,6 +5,7 @@ ghost use Rattle.blob_source.specs.Memory.{is_listed};
 ghost use Rattle.data_handles.specs.Handles.{handle_of, with_faults};
 
 use crate::handle::DataHandle;
+use blob_source::Schedule;
 use blob_words::{Failed, Octets, Octets64};
 use std::marker::Model;
 
@@ -12,8 +13,7 @@ use std::marker::Model;
 #[derive(Debug, Drop)]
 pub struct MemoryHandle {
     bytes: Octets,
-    failing: Octets64,
-    calls: u64,
+    schedule: Schedule,
     faults: u64,
 }
 
@@ -24,8 +24,8 @@ impl Model for MemoryHandle {
 
     ghost view = { λ handle. record {
       bytes = handle.bytes;
-      failing = handle.failing;
-      calls = handle.calls;
+      failing = handle.schedule.failing;
+      calls = handle.schedule.calls;
       faults = handle.faults;
     } };
 }
@@ -37,8 +37,7 @@ impl MemoryHandle {
     {
         MemoryHandle {
             bytes,
-            failing,
-            calls: 0,
+            schedule: Schedule::new(failing),
             faults: 0,
         }
     }
@@ -65,15 +64,14 @@ impl DataHandle for MemoryHandle {
 
         // It fails exactly at the reads listed.
         ensures fails { is_err result ≡ is_listed self.old.failing self.old.calls }
-        ensures ok { OnOk result (self.new ≡ record self.old { calls = next_count self.old.calls }) }
+        ensures ok { OnOk result
+            (self.new ≡ record self.old { calls = next_count self.old.calls }) }
         ensures err { OnErr result (self.new ≡ record self.old {
           calls = next_count self.old.calls;
           faults = next_count self.old.faults;
         }) }
     {
-        let is_listed = self.failing.as_slice().contains(&self.calls);
-        self.calls = self.calls.saturating_add(1);
-        if is_listed {
+        if self.schedule.fails_next() {
             self.faults = self.faults.saturating_add(1);
             return Err(Failed);
         }

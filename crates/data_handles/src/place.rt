@@ -1,4 +1,4 @@
-ghost use Rattle.std.specs.Prelude.{◌≡◌, ◌+◌, ◌≤◌, true, false, drop, is_some, length, take, Some, IfNone, IfSome, IsSome, IsSomeAnd, OnErr, OnOk};
+ghost use Rattle.std.specs.Prelude.{◌≡◌, ◌+◌, ◌≤◌, true, false, drop, is_some, length, take, Some, IfNone, IfSome, IsSomeAnd, OnErr, OnOk};
 ghost use Rattle.std.specs.Option.{ForNone};
 ghost use Rattle.blob_source.specs.Faults.{Rose};
 
@@ -19,7 +19,8 @@ impl<H: DataHandle> Place<H> {
 
     // A slot that wasn't claimed.
     pub fn new(object: H) -> Place<H>
-        ensures seen { slot_of H.seen result ≡ record { is_claimed = false; object = Some (H.seen object) } }
+        ensures seen { slot_of H.seen result
+            ≡ record { is_claimed = false; object = Some (H.seen object) } }
         ensures held { is_some result.object ≡ true }
     {
         Place {
@@ -50,14 +51,18 @@ impl<H: DataHandle> Place<H> {
     }
 
     pub fn read(&mut self, off: u64, out: &mut [u8]) -> Result<(), Failed>
-        requires { IsSomeAnd (slot_of H.seen self.old).object (λ handle. off + length out.old ≤ handle.size) }
+        requires { IsSomeAnd (slot_of H.seen self.old).object
+            (λ handle. off + length out.old ≤ handle.size) }
         ensures rest { slot_of H.seen self.new
             ≡ counted (slot_faults (slot_of H.seen self.new)) (slot_of H.seen self.old) }
         ensures bytes { OnOk result (IsSomeAnd (slot_of H.seen self.old).object
-            (λ handle. IfSome handle.told (λ bytes. out.new ≡ take (length out.old) (drop off bytes)))) }
+            (λ handle. IfSome handle.told
+            (λ bytes. out.new ≡ take (length out.old) (drop off bytes)))) }
         ensures good { OnOk result (slot_of H.seen self.new ≡ slot_of H.seen self.old) }
-        ensures failed { OnErr result (Rose (slot_faults (slot_of H.seen self.old)) (slot_faults (slot_of H.seen self.new))) }
-        ensures later { slot_faults (slot_of H.seen self.old) ≤ slot_faults (slot_of H.seen self.new) }
+        ensures failed { OnErr result (Rose (slot_faults (slot_of H.seen self.old))
+            (slot_faults (slot_of H.seen self.new))) }
+        ensures later { slot_faults (slot_of H.seen self.old)
+            ≤ slot_faults (slot_of H.seen self.new) }
         ensures held { is_some self.new.object ≡ is_some self.old.object }
     {
         match &mut self.object {

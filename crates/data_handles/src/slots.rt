@@ -1,5 +1,4 @@
-ghost use Rattle.std.specs.Prelude.{◌≡◌, ◌+◌, ◌*◌, ◌^◌, ◌<◌, ◌≤◌, true, drop, if◌then◌else◌, is_some, length, map, sum_by, take, vec_len, false, ◌||◌, IfOk, IfSome, IsSome, IsSomeAnd, IfErr, MatchResult, OnErr, OnOk};
-ghost use Rattle.blob_source.specs.Faults.{Rose};
+ghost use Rattle.std.specs.Prelude.{◌≡◌, ◌+◌, ◌*◌, ◌^◌, ◌<◌, ◌≤◌, true, if◌then◌else◌, is_some, length, map, sum_by, vec_len, false, IfOk, IsSome, IsSomeAnd};
 ghost use Rattle.blob_words.specs.declared.bounds.TheConstants.{MOST_HANDLES};
 
 use crate::fault::SlotFault;
@@ -15,17 +14,20 @@ pub struct Slots<H> {
     // The counts of the objects that were dropped.
     pub past: u128,
     ghost few: { vec_len slots ≤ MOST_HANDLES },
-    ghost past_fits: { past ≤ 2 ^ 64 * sum_by (λ place. if is_some place.object then 0 else 1) slots.items },
+    ghost past_fits: { past
+        ≤ 2 ^ 64 * sum_by (λ place. if is_some place.object then 0 else 1) slots.items },
 }
 
 impl<H: DataHandle> Slots<H> {
-    ghost use Rattle.data_handles.specs.Table.{claimed_at, count_of, counted_at, faults_at, is_claimed_at, new_table, object_at, released_at, SlotFaultAt};
+    ghost use Rattle.data_handles.specs.Calls.{CanClaim, Claims, Reads};
+    ghost use Rattle.data_handles.specs.Table.{count_of, is_claimed_at, new_table, object_at, released_at};
     ghost use Rattle.data_handles.specs.Slots.{of_slots};
 
     // The objects in their order, none of them claimed.
     pub fn new(alloc: Global, objects: Vec<H>) -> Result<Slots<H>, NoMemory>
         requires { vec_len objects ≤ MOST_HANDLES }
-        ensures { IfOk result (λ table. of_slots H.seen table ≡ new_table (map H.seen objects.items)) }
+        ensures { IfOk result
+            (λ table. of_slots H.seen table ≡ new_table (map H.seen objects.items)) }
     {
         let mut slots = Vec::with_capacity(alloc, objects.len())?;
         for object in objects {
@@ -36,10 +38,7 @@ impl<H: DataHandle> Slots<H> {
 
     // The size of the object in a slot that wasn't claimed.
     pub fn size_of(&self, k: u32) -> Result<u64, SlotFault>
-        ensures { MatchResult result
-            (λ size. (is_claimed_at (of_slots H.seen self.now) k ≡ false)
-            × IsSomeAnd (object_at (of_slots H.seen self.now) k) (λ handle. handle.size ≡ size))
-            (SlotFaultAt (of_slots H.seen self.now) k) }
+        ensures { CanClaim (of_slots H.seen self.now) k result }
     {
         match self.slots.get(k as usize) {
             Some(place) => match place.size() {
@@ -52,11 +51,7 @@ impl<H: DataHandle> Slots<H> {
 
     // Claims a slot.
     pub fn claim(&mut self, k: u32) -> Result<u64, SlotFault>
-        ensures ok { IfOk result (λ size. (is_claimed_at (of_slots H.seen self.old) k ≡ false)
-            × IsSomeAnd (object_at (of_slots H.seen self.old) k) (λ handle. handle.size ≡ size)
-            × (of_slots H.seen self.new ≡ claimed_at (of_slots H.seen self.old) k)) }
-        ensures err { IfErr result (λ fault. SlotFaultAt (of_slots H.seen self.old) k fault
-            × (of_slots H.seen self.new ≡ of_slots H.seen self.old)) }
+        ensures { Claims (of_slots H.seen self.old) k result (of_slots H.seen self.new) }
     {
         let size = self.size_of(k)?;
         self.slots[k as usize].claim();
@@ -67,14 +62,8 @@ impl<H: DataHandle> Slots<H> {
     pub fn read(&mut self, k: u32, off: u64, out: &mut [u8]) -> Result<(), Failed>
         requires { IsSomeAnd (object_at (of_slots H.seen self.old) k)
             (λ handle. off + length out.old ≤ handle.size) }
-        ensures rest { of_slots H.seen self.new ≡ counted_at (of_slots H.seen self.old) k
-            (faults_at (of_slots H.seen self.new) k) }
-        ensures bytes { OnOk result (IsSomeAnd (object_at (of_slots H.seen self.old) k)
-            (λ handle. IfSome handle.told (λ bytes. out.new ≡ take (length out.old) (drop off bytes)))) }
-        ensures good { OnOk result (of_slots H.seen self.new ≡ of_slots H.seen self.old) }
-        ensures failed { OnErr result (Rose (faults_at (of_slots H.seen self.old) k)
-            (faults_at (of_slots H.seen self.new) k)) }
-        ensures later { faults_at (of_slots H.seen self.old) k ≤ faults_at (of_slots H.seen self.new) k }
+        ensures { Reads (of_slots H.seen self.old) k off out.old result
+            (of_slots H.seen self.new) out.new }
     {
         self.slots[k as usize].read(off, out)
     }

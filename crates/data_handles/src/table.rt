@@ -1,7 +1,7 @@
-ghost use Rattle.std.specs.Prelude.{◌≡◌, ◌+◌, ◌≤◌, true, false, drop, is_some, length, map, take, vec_len, None, IfErr, IfOk, IfSome, IsSome, IsSomeAnd, MatchResult, OnErr, OnOk};
-ghost use Rattle.blob_source.specs.Faults.{Rose};
+ghost use Rattle.std.specs.Prelude.{◌≡◌, ◌+◌, ◌≤◌, true, is_some, length, map, vec_len, None, IfOk, IsSome, IsSomeAnd};
 ghost use Rattle.blob_words.specs.declared.bounds.TheConstants.{MOST_HANDLES};
-ghost use Rattle.data_handles.specs.Table.{claimed_at, count_of, counted_at, faults_at, is_claimed_at, new_table, object_at, released_at, KeepsOthers, SlotFaultAt};
+ghost use Rattle.data_handles.specs.Calls.{CanClaim, Claims, Reads};
+ghost use Rattle.data_handles.specs.Table.{count_of, is_claimed_at, new_table, object_at, released_at, KeepsOthers};
 
 use crate::boxed::Boxed;
 use crate::fault::SlotFault;
@@ -45,23 +45,17 @@ impl HandleTable {
 
     /// The size of the object in a slot that can be claimed.
     pub fn size_of(&self, k: u32) -> Result<u64, SlotFault>
-        ensures { MatchResult result
-            (λ size. (is_claimed_at (of_table ⟦<Boxed as DataHandle>⟧.seen self.now) k ≡ false)
-            × IsSomeAnd (object_at (of_table ⟦<Boxed as DataHandle>⟧.seen self.now) k) (λ handle. handle.size ≡ size))
-            (SlotFaultAt (of_table ⟦<Boxed as DataHandle>⟧.seen self.now) k) }
+        ensures { CanClaim (of_table ⟦<Boxed as DataHandle>⟧.seen self.now) k result }
     {
         self.slots.size_of(k)
     }
 
     /// Claims a slot, once, and answers the size of its object.
     pub fn claim(&mut self, k: u32) -> Result<u64, SlotFault>
-        ensures ok { IfOk result (λ size. (is_claimed_at (of_table ⟦<Boxed as DataHandle>⟧.seen self.old) k ≡ false)
-            × IsSomeAnd (object_at (of_table ⟦<Boxed as DataHandle>⟧.seen self.old) k) (λ handle. handle.size ≡ size)
-            × (of_table ⟦<Boxed as DataHandle>⟧.seen self.new ≡ claimed_at (of_table ⟦<Boxed as DataHandle>⟧.seen self.old) k)) }
+        ensures claims { Claims (of_table ⟦<Boxed as DataHandle>⟧.seen self.old) k result
+            (of_table ⟦<Boxed as DataHandle>⟧.seen self.new) }
         ensures others { KeepsOthers k (of_table ⟦<Boxed as DataHandle>⟧.seen self.old)
             (of_table ⟦<Boxed as DataHandle>⟧.seen self.new) }
-        ensures err { IfErr result (λ fault. SlotFaultAt (of_table ⟦<Boxed as DataHandle>⟧.seen self.old) k fault
-            × (of_table ⟦<Boxed as DataHandle>⟧.seen self.new ≡ of_table ⟦<Boxed as DataHandle>⟧.seen self.old)) }
     {
         self.slots.claim(k)
     }
@@ -70,19 +64,10 @@ impl HandleTable {
     pub fn read(&mut self, k: u32, off: u64, out: &mut [u8]) -> Result<(), Failed>
         requires { IsSomeAnd (object_at (of_table ⟦<Boxed as DataHandle>⟧.seen self.old) k)
             (λ handle. off + length out.old ≤ handle.size) }
-        ensures rest { of_table ⟦<Boxed as DataHandle>⟧.seen self.new
-            ≡ counted_at (of_table ⟦<Boxed as DataHandle>⟧.seen self.old) k
-            (faults_at (of_table ⟦<Boxed as DataHandle>⟧.seen self.new) k) }
-        ensures bytes { OnOk result (IsSomeAnd (object_at (of_table ⟦<Boxed as DataHandle>⟧.seen self.old) k)
-            (λ handle. IfSome handle.told (λ bytes. out.new ≡ take (length out.old) (drop off bytes)))) }
+        ensures reads { Reads (of_table ⟦<Boxed as DataHandle>⟧.seen self.old) k off out.old result
+            (of_table ⟦<Boxed as DataHandle>⟧.seen self.new) out.new }
         ensures others { KeepsOthers k (of_table ⟦<Boxed as DataHandle>⟧.seen self.old)
             (of_table ⟦<Boxed as DataHandle>⟧.seen self.new) }
-        ensures good { OnOk result (of_table ⟦<Boxed as DataHandle>⟧.seen self.new
-            ≡ of_table ⟦<Boxed as DataHandle>⟧.seen self.old) }
-        ensures failed { OnErr result (Rose (faults_at (of_table ⟦<Boxed as DataHandle>⟧.seen self.old) k)
-            (faults_at (of_table ⟦<Boxed as DataHandle>⟧.seen self.new) k)) }
-        ensures later { faults_at (of_table ⟦<Boxed as DataHandle>⟧.seen self.old) k
-            ≤ faults_at (of_table ⟦<Boxed as DataHandle>⟧.seen self.new) k }
     {
         self.slots.read(k, off, out)
     }

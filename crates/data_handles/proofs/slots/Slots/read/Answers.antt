@@ -5,42 +5,8 @@ use Rattle.std.proofs.lemmas.Result.{on_ok_weaker}
 use Rattle.data_handles.proofs.Written
 use Rattle.data_handles.proofs.slots.Slots.read.Goals as goal
 
-pub returns-clause-rest : goal.returns-clause-rest
-returns-clause-rest g c =
-    let seen = g.H.DataHandle.seen in
-    let items = c.args.self.now.slots.items in
-    let past = c.args.self.now.past in
-    let k = c.args.k in
-    let place = c.index_mut.result.now in
-    let within = Written.place_within seen (λ handle. c.args.off + length c.args.out.now ≤ handle.size) items past k c.requires in
-    let there = Written.slot_there seen items k place c.index_mut.ensures.value within in
-    Written.counted_places seen items past k place c.read.new.self there c.read.ensures.rest
-
-pub returns-clause-bytes : goal.returns-clause-bytes
-returns-clause-bytes g c =
-    let seen = g.H.DataHandle.seen in
-    let items = c.args.self.now.slots.items in
-    let past = c.args.self.now.past in
-    let k = c.args.k in
-    let place = c.index_mut.result.now in
-    let within = Written.place_within seen (λ handle. c.args.off + length c.args.out.now ≤ handle.size) items past k c.requires in
-    let there = Written.slot_there seen items k place c.index_mut.ensures.value within in
-    subst (λ (object : Option Handle). OnOk c.read.result (IsSomeAnd object (λ handle. IfSome handle.told (λ bytes. c.read.new.out ≡ take (length c.args.out.now) (drop c.args.off bytes)))))
-    (sym (Written.old_object seen items past k place there)) c.read.ensures.bytes
-
-pub returns-clause-good : goal.returns-clause-good
-returns-clause-good g c =
-    let seen = g.H.DataHandle.seen in
-    let items = c.args.self.now.slots.items in
-    let past = c.args.self.now.past in
-    let k = c.args.k in
-    let place = c.index_mut.result.now in
-    let within = Written.place_within seen (λ handle. c.args.off + length c.args.out.now ≤ handle.size) items past k c.requires in
-    let there = Written.slot_there seen items k place c.index_mut.ensures.value within in
-    on_ok_weaker c.read.result (λ same. Written.same_places seen items past k place c.read.new.self there same) c.read.ensures.good
-
-pub returns-clause-failed : goal.returns-clause-failed
-returns-clause-failed g c =
+pub returns : goal.returns
+returns g c =
     let seen = g.H.DataHandle.seen in
     let items = c.args.self.now.slots.items in
     let past = c.args.self.now.past in
@@ -50,17 +16,11 @@ returns-clause-failed g c =
     let there = Written.slot_there seen items k place c.index_mut.ensures.value within in
     let old = Written.old_faults seen items past k place there in
     let new = Written.new_faults seen items past k place c.read.new.self there in
-    rw (old, new) c.read.ensures.failed
-
-pub returns-clause-later : goal.returns-clause-later
-returns-clause-later g c =
-    let seen = g.H.DataHandle.seen in
-    let items = c.args.self.now.slots.items in
-    let past = c.args.self.now.past in
-    let k = c.args.k in
-    let place = c.index_mut.result.now in
-    let within = Written.place_within seen (λ handle. c.args.off + length c.args.out.now ≤ handle.size) items past k c.requires in
-    let there = Written.slot_there seen items k place c.index_mut.ensures.value within in
-    let old = Written.old_faults seen items past k place there in
-    let new = Written.new_faults seen items past k place c.read.new.self there in
-    rw (old, new) c.read.ensures.later
+    record {
+      rest = Written.counted_places seen items past k place c.read.new.self there c.read.ensures.rest;
+      bytes = subst (λ (object : Option Handle). OnOk c.read.result (IsSomeAnd object (λ handle. IfSome handle.told (λ bytes. c.read.new.out ≡ take (length c.args.out.now) (drop c.args.off bytes)))))
+          (sym (Written.old_object seen items past k place there)) c.read.ensures.bytes;
+      good = on_ok_weaker c.read.result (λ same. Written.same_places seen items past k place c.read.new.self there same) c.read.ensures.good;
+      failed = rw (old, new) c.read.ensures.failed;
+      later = rw (old, new) c.read.ensures.later;
+    }

@@ -36,24 +36,15 @@ invariant_of-self g c =
     let faults : c.from.result < 2 ^ 64 = rw c.from.ensures c.release-faults.type_inv in
     record { few = c.args.self.now.few; past_fits = omega (arith, gaps, fits, faults) }
 
-pub returns-clause-rest : goal.returns-clause-rest
-returns-clause-rest g c =
+pub returns : goal.returns
+returns g c =
     let seen = g.H.DataHandle.seen in
     let items = c.args.self.now.slots.items in
     let past = c.args.self.now.past in
     let k = c.args.k in
     let place = c.index_mut.result.now in
+    let new = c.release-faults.new.self in
     let within = Written.held_within seen items past k c.requires.held in
     let there = Written.slot_there seen items k place c.index_mut.ensures.value within in
-    Written.released_places seen items past k c.from.result place c.release-faults.new.self there c.release-faults.ensures.rest (c.from.ensures ∙ c.release-faults.ensures.faults)
-
-pub returns-clause-count : goal.returns-clause-count
-returns-clause-count g c =
-    let seen = g.H.DataHandle.seen in
-    let items = c.args.self.now.slots.items in
-    let past = c.args.self.now.past in
-    let k = c.args.k in
-    let place = c.index_mut.result.now in
-    let within = Written.held_within seen items past k c.requires.held in
-    let there = Written.slot_there seen items k place c.index_mut.ensures.value within in
-    ap count_of (Written.released_places seen items past k c.from.result place c.release-faults.new.self there c.release-faults.ensures.rest (c.from.ensures ∙ c.release-faults.ensures.faults)) ∙ Written.released_count (Written.slots_of seen items) past k (slot_of seen place) there
+    let rest = Written.released_places seen items past k c.from.result place new there c.release-faults.ensures.rest (c.from.ensures ∙ c.release-faults.ensures.faults) in
+    record { rest = rest; count = ap count_of rest ∙ Written.released_count (Written.slots_of seen items) past k (slot_of seen place) there }
