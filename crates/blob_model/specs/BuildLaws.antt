@@ -1,6 +1,7 @@
 -- What holds of the blobs of legal transcripts, and of liveness. File API: the size of a Blob is the number of its bytes.
 use Rattle.std.specs.Prelude.{◌≡◌, ◌≤◌, ◌<◌, ◌+◌, ℕ, ◌==◌, Bool, true, false, List, [], length, map, filter, Some, None}
 use Rattle.std.specs.List.{AllByRecursion, list_any, range_with_len}
+use Rattle.blob_words.specs.declared.bounds.TheConstants.{MOST_BLOBS, MOST_PIECES, MOST_RENDERERS}
 use Rattle.blob_words.specs.declared.limits.Limits.{Limits}
 use Rattle.blob_words.specs.declared.plan.Plan.{Plan}
 use Rattle.transport_plan.specs.Spans.{IsEndToEnd, piece_count}
@@ -85,13 +86,13 @@ UnspawnedAreNotDead =
 -- a session has at most 1,024 renderers
 abbrev pub RenderersAreFew : Type 0
 RenderersAreFew =
-    (s : Session) (h : History) (renderer : RendererId) (origin : List ℕ) → is_spawned h renderer.0 ≡ false → 1024 ≤ length (spawned h) →
+    (s : Session) (h : History) (renderer : RendererId) (origin : List ℕ) → is_spawned h renderer.0 ≡ false → MOST_RENDERERS ≤ length (spawned h) →
     refusal s h (events.Spawn renderer origin) ≡ Some (refusals.TooMany counted.Renderers)
 
 -- a session has at most 65,536 pieces: a build with which there would be more is refused, where nothing refuses or breaks it before
 abbrev pub PiecesAreFew : Type 0
 PiecesAreFew =
     (s : Session) (h : History) (renderer : RendererId) (name : ℕ) (kind : List ℕ) (parts : List Part) → is_alive h renderer.0 ≡ true → build_in (builds s.limits.page h) name ≡ None → claims parts ≡ [] →
-    length (builds s.limits.page h) < 65536 → line_status s h renderer.0 name parts ≡ None → is_many_segments (plan_for s h parts) ≡ false →
-    65536 < piece_total s h + piece_count s.limits.page (own_lengths parts) →
+    length (builds s.limits.page h) < MOST_BLOBS → line_status s h renderer.0 name parts ≡ None → is_many_segments (plan_for s h parts) ≡ false →
+    MOST_PIECES < piece_total s h + piece_count s.limits.page (own_lengths parts) →
     refusal s h (events.Build renderer name kind parts) ≡ Some (refusals.TooMany counted.Pieces)

@@ -2,6 +2,7 @@
 use Rattle.std.specs.Prelude.{ℕ, ◌+◌, ◌==◌, ◌&&◌, Bool, true, false, not, List, [], ◌∷◌, ◌++◌, length, sum_by, flat_map, nat_lt, nat_le, Option, None, Some, is_none, is_some, unwrap_or, bytes_eq, slice_index_or}
 use Rattle.std.specs.Option.{option_map_or}
 use Rattle.std.specs.List.{list_any}
+use Rattle.blob_words.specs.declared.bounds.TheConstants.{MOST_BLOBS, MOST_FILES, MOST_PIECES, MOST_READERS, MOST_RENDERERS, MOST_URLS, MOST_WEIGHT}
 use Rattle.blob_words.specs.declared.counted.Counted.{Counted}
 use Rattle.blob_words.specs.declared.counted.Counted.TheVariants as counted
 use Rattle.blob_words.specs.declared.number.RendererId.{RendererId}
@@ -48,7 +49,7 @@ abbrev pub too_many : Bool → Counted → Bool × Refusal
 too_many test counted = (test, refusals.TooMany counted)
 
 abbrev pub too_many_blobs : Session → History → Bool × Refusal
-too_many_blobs s h = too_many (nat_le 65536 (length (builds s.limits.page h))) counted.Blobs
+too_many_blobs s h = too_many (nat_le MOST_BLOBS (length (builds s.limits.page h))) counted.Blobs
 
 -- the slots that accepted builds claim
 abbrev pub claimed : Session → History → List ℕ
@@ -79,11 +80,11 @@ abbrev pub many_segments : Session → History → Bool → List Part → Bool �
 many_segments s h stands parts = too_many (stands && is_many_segments (plan_for s h parts)) counted.Segments
 
 abbrev pub many_pieces : Session → History → Bool → List Part → Bool × Refusal
-many_pieces s h stands parts = too_many (stands && nat_lt 65536 (piece_total s h + piece_count s.limits.page (own_lengths parts))) counted.Pieces
+many_pieces s h stands parts = too_many (stands && nat_lt MOST_PIECES (piece_total s h + piece_count s.limits.page (own_lengths parts))) counted.Pieces
 
 abbrev pub many_views : Session → History → Bool → List Part → Bool × Refusal
 many_views s h stands parts =
-    too_many (stands && nat_lt 4194304 (weight_total s h + parts_weight s.limits.page (builds s.limits.page h) parts)) counted.Views
+    too_many (stands && nat_lt MOST_WEIGHT (weight_total s h + parts_weight s.limits.page (builds s.limits.page h) parts)) counted.Views
 
 abbrev pub stands_at_line : Session → History → RendererId → ℕ → List Part → Bool
 stands_at_line s h renderer name parts = is_none (line_status s h renderer.0 name parts)
@@ -127,7 +128,7 @@ abbrev pub reader_refusals : Session → History → ReaderId → ℕ → ℕ �
 reader_refusals s h reader b off len =
     (is_some (reader_at s.limits.page h reader.0), refusals.ReaderUsed reader)
     ∷ (not (is_broken h b) && nat_lt (size_in (builds s.limits.page h) b) (off + unwrap_or len 0), refusals.Range (size_in (builds s.limits.page h) b))
-    ∷ too_many (nat_le 4096 (length (readers s.limits.page h))) counted.Readers
+    ∷ too_many (nat_le MOST_READERS (length (readers s.limits.page h))) counted.Readers
     ∷ []
 
 abbrev pub fetch_refusals : Session → History → ReaderId → Option Entry → ℕ → Option ℕ → List (Bool × Refusal)
@@ -145,11 +146,11 @@ no_job h job = (not (option_map_or (λ (flying : Job). flying.number == job.0) (
 abbrev pub refusals_of : Session → History → Event → List (Bool × Refusal)
 refusals_of s h (events.Limits limits) = (true, refusals.LimitsAgain) ∷ []
 refusals_of s h (events.Limits2 limits) = (true, refusals.LimitsAgain) ∷ []
-refusals_of s h (events.Spawn renderer origin) = (is_spawned h renderer.0, refusals.RendererUsed renderer) ∷ too_many (nat_le 1024 (length (spawned h))) counted.Renderers ∷ []
+refusals_of s h (events.Spawn renderer origin) = (is_spawned h renderer.0, refusals.RendererUsed renderer) ∷ too_many (nat_le MOST_RENDERERS (length (spawned h))) counted.Renderers ∷ []
 refusals_of s h (events.Die renderer) = no_renderer h renderer ∷ []
 refusals_of s h (events.File name stamp bytes) =
     (option_map_or (λ (last : ℕ). nat_le stamp last) (last_stamp h name) false, refusals.StaleStamp (unwrap_or (last_stamp h name) 0))
-    ∷ too_many (not (list_any (bytes_eq name) (file_names h)) && nat_le 16384 (length (file_names h))) counted.Files
+    ∷ too_many (not (list_any (bytes_eq name) (file_names h)) && nat_le MOST_FILES (length (file_names h))) counted.Files
     ∷ []
 refusals_of s h (events.Gone name) = (is_none (recorded h name), refusals.NoFile) ∷ []
 refusals_of s h (events.Build renderer name kind parts) = build_refusals s h renderer name parts
@@ -164,7 +165,7 @@ refusals_of s h (events.Url renderer b text) =
     ∷ no_handle h renderer b
     ∷ (not (is_url_of (origin_of h renderer.0) text), refusals.UrlForm)
     ∷ (is_some (entry_at (entries h) text), refusals.UrlTaken)
-    ∷ too_many (nat_le 16384 (length (entries h))) counted.Urls
+    ∷ too_many (nat_le MOST_URLS (length (entries h))) counted.Urls
     ∷ []
 refusals_of s h (events.Revoke renderer text) = no_renderer h renderer ∷ []
 refusals_of s h (events.Read renderer reader b off len) = no_renderer h renderer ∷ no_handle h renderer b ∷ reader_refusals s h reader b off len
