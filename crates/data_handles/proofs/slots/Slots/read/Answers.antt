@@ -18,7 +18,8 @@ returns g c =
     let new = Written.new_faults seen items past k place c.read.new.self there in
     record {
       rest = Written.counted_places seen items past k place c.read.new.self there c.read.ensures.rest;
-      bytes = subst (λ (object : Option Handle). OnOk c.read.result (IsSomeAnd object (λ handle. IfSome handle.told (λ bytes. c.read.new.out ≡ take (length c.args.out.now) (drop c.args.off bytes)))))
+      bytes = subst (λ (object : Option Handle). OnOk c.read.result (IsSomeAnd object
+          (λ handle. IfSome handle.told (λ bytes. c.read.new.out ≡ take (length c.args.out.now) (drop c.args.off bytes)))))
           (sym (Written.old_object seen items past k place there)) c.read.ensures.bytes;
       good = on_ok_weaker c.read.result (λ same. Written.same_places seen items past k place c.read.new.self there same) c.read.ensures.good;
       failed = rw (old, new) c.read.ensures.failed;

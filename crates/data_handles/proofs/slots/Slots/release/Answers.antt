@@ -46,5 +46,6 @@ returns g c =
     let new = c.release-faults.new.self in
     let within = Written.held_within seen items past k c.requires.held in
     let there = Written.slot_there seen items k place c.index_mut.ensures.value within in
-    let rest = Written.released_places seen items past k c.from.result place new there c.release-faults.ensures.rest (c.from.ensures ∙ c.release-faults.ensures.faults) in
+    let faults = c.from.ensures ∙ c.release-faults.ensures.faults in
+    let rest = Written.released_places seen items past k c.from.result place new there c.release-faults.ensures.rest faults in
     record { rest = rest; count = ap count_of rest ∙ Written.released_count (Written.slots_of seen items) past k (slot_of seen place) there }
