@@ -6,7 +6,7 @@ use Rattle.replay_run.specs.declared.reason.Reason.TheVariants as reasons
 use Rattle.replay_run.specs.Reads.{limits_of, states_limits}
 use Rattle.replay_run.specs.Turns.{IsOpening, IsOutFirst}
 use Rattle.replay_run.proofs.TurnLemmas.{bad-fault, ends-fault, ends-refused, with_event, is_limits}
-use Rattle.replay_run.proofs.replay.line.read_limits.Goals as goal
+use Rattle.replay_run.proofs.session.line.read_limits.Goals as goal
 
 pub returns-in-Err-clause-refused : goal.returns-in-Err-clause-refused
 returns-in-Err-clause-refused g c unread unread' short clear taken =

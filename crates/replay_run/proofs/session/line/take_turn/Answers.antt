@@ -6,7 +6,7 @@ use Rattle.replay_run.specs.Legal.{IsLegalGroup}
 use Rattle.replay_run.specs.Own.{own}
 use Rattle.replay_run.specs.Turns.{IsOutAt}
 use Rattle.replay_run.proofs.TurnLemmas.{bad-long, bad-unended, ends-refused, turned-ends}
-use Rattle.replay_run.proofs.replay.line.take_turn.Goals as goal
+use Rattle.replay_run.proofs.session.line.take_turn.Goals as goal
 
 pub returns-in-Line-clause-turned : goal.returns-in-Line-clause-turned
 returns-in-Line-clause-turned g c l h rests ready =

@@ -4,7 +4,7 @@ use Rattle.std.specs.Io.KnownBytes.{prepend_known}
 use Rattle.replay_run.specs.declared.reason.Reason.TheVariants as reasons
 use Rattle.replay_run.specs.Turns.{IsNone, IsOutPast}
 use Rattle.replay_run.proofs.TurnLemmas.{past-some, past-unended, ends-refused}
-use Rattle.replay_run.proofs.replay.line.past_lines.Goals as goal
+use Rattle.replay_run.proofs.session.line.past_lines.Goals as goal
 
 fed : (line : List ℕ) → 0 < length (line ++ 10 ∷ [])
 fed line = omega (arith, length-append line (10 ∷ []))

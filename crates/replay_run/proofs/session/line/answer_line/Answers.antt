@@ -18,7 +18,7 @@ use Rattle.replay_run.specs.declared.store.Store.{Store}
 use Rattle.replay_run.specs.declared.store.fault.ApplyFault.{ApplyFault}
 use Rattle.replay_run.specs.declared.store.fault.ApplyFault.TheVariants as faults
 use Rattle.replay_run.proofs.TurnLemmas.{bad-fault, begins, ends-fault, ends-refused, turned-ends, with_event}
-use Rattle.replay_run.proofs.replay.line.answer_line.Goals as goal
+use Rattle.replay_run.proofs.session.line.answer_line.Goals as goal
 
 -- a line that isn't built has no own answer
 unbuilt_here : (l : Limits) (h : History) (event : Event) (s : Store) (fault : ApplyFault) → Applies l h event s (Err fault) → fault ≡ faults.Unbuilt → own l h event ≡ None

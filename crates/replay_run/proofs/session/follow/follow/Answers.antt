@@ -3,7 +3,7 @@ use Rattle.std.proofs.Common.{arith, refl}
 use Rattle.std.specs.Io.KnownBytes.{prepend_known}
 use Rattle.replay_run.specs.History.{start, history_from}
 use Rattle.replay_run.proofs.GoingLemmas.{going-more, going-over, going-past, HasCause-earlier}
-use Rattle.replay_run.proofs.replay.follow.follow.Goals as goal
+use Rattle.replay_run.proofs.session.follow.follow.Goals as goal
 
 pub returns-in-Over-clause-taken : goal.returns-in-Over-clause-taken
 returns-in-Over-clause-taken g c l rests ready =

@@ -6,8 +6,8 @@ ghost use Rattle.replay_run.specs.History.{start};
 ghost use Rattle.replay_run.specs.Stands.{Rests};
 ghost use Rattle.replay_run.specs.Turns.{AreTaken};
 
-use crate::ending::Ending;
-use crate::replay::line::{MAX_LINES, past_lines, take_turn};
+use crate::session::line::{MAX_LINES, past_lines, take_turn};
+use crate::session_end::SessionEnd;
 use crate::store::Store;
 use crate::turn::Turn;
 use blob_source::{LineReader, Sink, Source};
@@ -22,10 +22,11 @@ pub fn follow<S: Source, K: Sink>(
     session: &mut S,
     buffer: &mut Buffer,
     out: &mut K,
-) -> Ending
+) -> SessionEnd
     requires { buffer.old ≡ [] }
     ensures taken { (l : Limits) → Rests l store.old start → reader.old.last ≡ steps.Line
-        → AreTaken l (prepend_known reader.old.ahead (S.left session.old)) (K.held out.old) (K.held out.new)
+        → AreTaken l (prepend_known reader.old.ahead (S.left session.old)) (K.held out.old)
+        (K.held out.new)
         (S.faults session.old) (S.faults session.new) (K.faults out.old) (K.faults out.new) result }
     ensures source_later { S.faults session.old ≤ S.faults session.new }
     ensures sink_later { K.faults out.old ≤ K.faults out.new }

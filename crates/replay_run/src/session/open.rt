@@ -7,7 +7,7 @@ ghost use Rattle.answer_text.specs.Text.{group_text};
 ghost use Rattle.replay_run.specs.Puts.{IsUnwritten};
 ghost use Rattle.replay_run.specs.Stands.{Rests};
 
-use crate::ending::Ending;
+use crate::session_end::SessionEnd;
 use crate::store::Store;
 use answer_text::{Answer, Answers, Group, stream_group_through};
 use blob_source::Sink;
@@ -40,20 +40,22 @@ pub fn open_with<K: Sink>(
     limits: Limits,
     buffer: &mut Buffer,
     out: &mut K,
-) -> Result<Store, Ending>
+) -> Result<Store, SessionEnd>
     requires { buffer.old ≡ [] }
     ensures opened { MatchResult result
-        (λ store. Rests limits store start × Appends (K.held out.old) (K.held out.new) (group_text (opening limits)))
+        (λ store. Rests limits store start
+        × Appends (K.held out.old) (K.held out.new) (group_text (opening limits)))
         (IsUnwritten (group_text (opening limits)) (K.held out.old) (K.held out.new)) }
-    ensures cause { result ≡ Err Ending.SinkFailed → Rose (K.faults out.old) (K.faults out.new) }
+    ensures cause { result ≡ Err SessionEnd.SinkFailed
+        → Rose (K.faults out.old) (K.faults out.new) }
     ensures later { K.faults out.old ≤ K.faults out.new }
     ensures empty { OnOk result (buffer.new ≡ []) }
 {
     let Ok(group) = opening(alloc, limits) else {
-        return Err(Ending::NoMemory);
+        return Err(SessionEnd::NoMemory);
     };
     match stream_group_through(&group, buffer, out) {
         Ok(()) => Ok(Store::new(alloc, limits)),
-        Err(Failed) => Err(Ending::SinkFailed),
+        Err(Failed) => Err(SessionEnd::SinkFailed),
     }
 }

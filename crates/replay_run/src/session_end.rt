@@ -1,11 +1,11 @@
 ghost use Rattle.std.specs.Prelude.{◌≡◌};
-ghost use Rattle.replay_run.specs.Ending.{code_of};
+ghost use Rattle.replay_run.specs.SessionEnd.{code_of};
 
 use crate::reason::Reason;
 
 /// How a replay ended.
 #[derive(Clone, Copy, Debug, PartialEq, Eq)]
-pub enum Ending {
+pub enum SessionEnd {
     /// The `end` line was read and its group written.
     Finished,
     /// The line of this number, from 1, was refused, and that was written.
@@ -21,15 +21,15 @@ pub enum Ending {
 }
 
 /// The exit status of a replay.
-pub fn status_of(ending: Ending) -> u8
+pub fn status_of(ending: SessionEnd) -> u8
     ensures { result ≡ code_of ending }
 {
     match ending {
-        Ending::Finished => 0,
-        Ending::Refused(_, _) => 2,
-        Ending::NoMemory => 3,
-        Ending::SourceFailed => 4,
-        Ending::SinkFailed => 5,
-        Ending::Stopped => 6,
+        SessionEnd::Finished => 0,
+        SessionEnd::Refused(_, _) => 2,
+        SessionEnd::NoMemory => 3,
+        SessionEnd::SourceFailed => 4,
+        SessionEnd::SinkFailed => 5,
+        SessionEnd::Stopped => 6,
     }
 }

@@ -6,7 +6,7 @@ use Rattle.blob_source.specs.declared.line_step.LineStep.TheVariants as steps
 use Rattle.replay_run.specs.History.{start}
 use Rattle.replay_run.specs.Stands.{Rests}
 use Rattle.replay_run.specs.Turns.{Going}
-use Rattle.replay_run.proofs.replay.follow.follow.Given as goal
+use Rattle.replay_run.proofs.session.follow.follow.Given as goal
 
 abbrev pub invariant-loop-number : goal.invariant-loop-number
 invariant-loop-number g l = record {

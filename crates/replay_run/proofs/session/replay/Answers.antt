@@ -5,14 +5,14 @@ use Rattle.std.proofs.KnownBytes.{Appends-nil, prepend_known-nil}
 use Rattle.session_script.specs.declared.event.Event.TheVariants as events
 use Rattle.session_script.specs.Line.{line_of}
 use Rattle.blob_source.specs.Faults.{Rose}
-use Rattle.replay_run.specs.declared.ending.Ending.TheVariants.{NoMemory}
+use Rattle.replay_run.specs.declared.session_end.SessionEnd.TheVariants.{NoMemory}
 use Rattle.replay_run.specs.Legal.{opening}
 use Rattle.answer_text.specs.Text.{group_text}
 use Rattle.replay_run.specs.Puts.{IsUnwritten}
 use Rattle.replay_run.specs.Turns.{EndsAt, IsOpening, IsOutFirst}
 use Rattle.replay_run.proofs.GoingLemmas.{HasCause-earlier}
 use Rattle.replay_run.proofs.OpeningLemmas.{ended-first, ended-cut, replayed}
-use Rattle.replay_run.proofs.replay.replay.Goals as goal
+use Rattle.replay_run.proofs.session.replay.Goals as goal
 
 pub returns-in_default-clause-replay : goal.returns-in_default-clause-replay
 returns-in_default-clause-replay g c =

@@ -1,7 +1,7 @@
 -- One word is the word.
 use Rattle.std.proofs.Common.{◌≡◌, ◌∙◌, sym, ap, arith, map, string_bytes, String, ℕ, List, [], ◌∷◌, length, get_or, codes}
 use Rattle.std.proofs.lemmas.Slice.Eq.{bytes_eq-Decides}
-use Rattle.replay_run.proofs.replay.ask_replay.Goals as goal
+use Rattle.replay_run.proofs.session.ask_replay.Goals as goal
 
 one_word : {Z : Type 0} (words : List (String Z)) (word : String Z) (text : List ℕ) → length words ≡ 1 → word ≡ get_or words 0 word → string_bytes word ≡ text → map string_bytes words ≡ text ∷ []
 one_word [] word text size is same = absurd (omega (arith, size))

@@ -6,7 +6,7 @@ use Rattle.replay_run.specs.Reads.{limits_of, states_limits}
 use Rattle.replay_run.specs.Turns.{IsOpening, IsOutFirst}
 use Rattle.replay_run.proofs.GoingLemmas.{caused-late}
 use Rattle.replay_run.proofs.TurnLemmas.{bad-long, bad-unended, ends-refused}
-use Rattle.replay_run.proofs.replay.line.take_limits.Goals as goal
+use Rattle.replay_run.proofs.session.line.take_limits.Goals as goal
 
 pub returns-in-Unended-clause-refused : goal.returns-in-Unended-clause-refused
 returns-in-Unended-clause-refused g c ready =

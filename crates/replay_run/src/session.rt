@@ -5,25 +5,25 @@ pub mod open;
 pub mod put;
 
 ghost use Rattle.std.specs.Prelude.{◌≡◌, ◌≤◌, true, false, map, string_bytes};
-ghost use Rattle.replay_run.specs.Ending.{code_of};
-ghost use Rattle.replay_run.specs.Run.{AskReplay, IsReplay};
+ghost use Rattle.replay_run.specs.SessionEnd.{code_of};
+ghost use Rattle.replay_run.specs.Run.{AskReplay, Replays};
 
-use crate::ending::{Ending, status_of};
-use crate::replay::follow::follow;
-use crate::replay::line::take_limits;
-use crate::replay::open::open_with;
+use crate::session::follow::follow;
+use crate::session::line::take_limits;
+use crate::session::open::open_with;
+use crate::session_end::{SessionEnd, status_of};
 use blob_source::{LineReader, Sink, Source};
 use std::alloc::Global;
 use text_fields::buffer::Buffer;
 
-fn replay<S: Source, K: Sink>(alloc: Global, session: &mut S, out: &mut K) -> Ending
-    ensures replay { IsReplay (S.left session.old) (K.held out.old) (K.held out.new)
-        (S.faults session.old) (S.faults session.new) (K.faults out.old) (K.faults out.new) (code_of result) }
+fn replay<S: Source, K: Sink>(alloc: Global, session: &mut S, out: &mut K) -> SessionEnd
+    ensures replay { Replays S.Source K.Sink session.old session.new out.old out.new
+        (code_of result) }
     ensures source_later { S.faults session.old ≤ S.faults session.new }
     ensures sink_later { K.faults out.old ≤ K.faults out.new }
 {
     let Ok(mut reader) = LineReader::new(alloc) else {
-        return Ending::NoMemory;
+        return SessionEnd::NoMemory;
     };
     let limits = match take_limits(alloc, &mut reader, session, out) {
         Ok(limits) => limits,
@@ -52,9 +52,10 @@ fn ask_replay(words: &[String]) -> bool
 /// written. 2: a line was refused. 3: want of memory. 4: the source failed. 5: the sink failed.
 /// 6: the source ended at a line's end, with no `end` line read.
 pub fn run<S: Source, K: Sink>(alloc: Global, words: &[String], session: &mut S, out: &mut K) -> u8
-    ensures replay { AskReplay (map string_bytes words.now) → IsReplay (S.left session.old) (K.held out.old) (K.held out.new)
-        (S.faults session.old) (S.faults session.new) (K.faults out.old) (K.faults out.new) result }
-    ensures other_words { (AskReplay (map string_bytes words.now) → ⊥) → (result ≡ 1) × (session.new ≡ session.old) × (out.new ≡ out.old) }
+    ensures replay { AskReplay (map string_bytes words.now) →
+        Replays S.Source K.Sink session.old session.new out.old out.new result }
+    ensures other_words { (AskReplay (map string_bytes words.now) → ⊥) → (result ≡ 1)
+        × (session.new ≡ session.old) × (out.new ≡ out.old) }
     ensures source_later { S.faults session.old ≤ S.faults session.new }
     ensures sink_later { K.faults out.old ≤ K.faults out.new }
 {
