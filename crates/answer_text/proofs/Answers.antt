@@ -16,7 +16,8 @@ use Rattle.text_fields.proofs.Visible.{AreVisible, has_feed, all_visible, spells
 use Rattle.answer_text.specs.Fault.{IsRefusalFields, IsPlan, ArePieces, IsAnswerFields, IsAnswer, IsTally, kinds_of, refusal_kinds, tally_kinds, ReadsAs}
 use Rattle.answer_text.specs.Reading.{ReadsAnswer}
 use Rattle.answer_text.specs.Text.{refusal_word_of, refusal_fields, plan_fields, piece_fields, word_of, answer_fields, answer_text, tally_fields, tally_text, RefusalHasText, PlanHasText, PiecesHaveText, HasText, TallyHasText}
-use Rattle.answer_text.specs.Word.{word_text, refusal_text, plan_text, counted_fields}
+use Rattle.text_fields.specs.Counted.{counted_fields}
+use Rattle.answer_text.specs.Word.{word_text, refusal_text, plan_text}
 use Rattle.answer_text.specs.declared.answer.Answer.{Answer}
 use Rattle.answer_text.specs.declared.answer.Answer.TheVariants as answers
 use Rattle.answer_text.specs.declared.answer_word.AnswerWord.{AnswerWord}

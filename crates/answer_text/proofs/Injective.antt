@@ -2,8 +2,6 @@
 use Rattle.std.proofs.Common.{◌≡◌, ℕ, ◌<◌, ◌^◌, Bool, true, false, List, [], ◌∷◌, ◌++◌, decimal, codes, Some, refl, sym, ap, ◌∙◌}
 use Rattle.std.specs.List.{AllByRecursion, flat_map}
 use Rattle.std.proofs.lemmas.Fmt.{decimal_injective}
-use Rattle.blob_words.specs.declared.counted.Counted.{Counted}
-use Rattle.blob_words.specs.declared.counted.Counted.TheVariants as counts
 use Rattle.blob_words.specs.declared.number.PageNo.{PageNo}
 use Rattle.blob_words.specs.declared.number.PieceNo.{PieceNo}
 use Rattle.blob_words.specs.declared.plan.Plan.{Plan}
@@ -15,9 +13,10 @@ use Rattle.text_fields.specs.Status.{switch_word}
 use Rattle.session_script.proofs.Injective.{line_injective, same_job, same_reader, same_renderer}
 use Rattle.text_fields.proofs.Spellings.{same_32, same_hex, same_name}
 use Rattle.session_script.specs.declared.event.Event.{Event}
-use Rattle.text_fields.proofs.Words.{look_up, same_status, some_same}
+use Rattle.text_fields.proofs.Counts.{same_counted}
+use Rattle.text_fields.proofs.Words.{same_status}
 use Rattle.answer_text.specs.Text.{refusal_word_of, refusal_fields, plan_fields, piece_fields, word_of, answer_fields, answer_text, tally_fields, tally_text, answer_line, tally_line, group_text, groups_text, RefusalHasText, PlanHasText, HasText, TallyHasText, GroupHasText}
-use Rattle.answer_text.specs.Word.{word_text, counted_fields}
+use Rattle.answer_text.specs.Word.{word_text}
 use Rattle.answer_text.specs.declared.answer.Answer.{Answer}
 use Rattle.answer_text.specs.declared.answer.Answer.TheVariants as answers
 use Rattle.answer_text.specs.declared.group.Group.{Group}
@@ -45,29 +44,6 @@ same_switch true true same = refl
 same_switch true false same = cc same
 same_switch false true same = cc same
 same_switch false false same = refl
-
-abbrev front : List (List ℕ) → List ℕ
-front [] = []
-front (text ∷ texts) = text
-
-abbrev counted_word : Counted → List ℕ
-counted_word counted = front (counted_fields counted)
-
-abbrev all_counted : List Counted
-all_counted = counts.Renderers ∷ counts.Blobs ∷ counts.Segments ∷ counts.Pieces ∷ counts.Views ∷ counts.Readers ∷ counts.Urls ∷ counts.Files ∷ []
-
-counted_found : (x : Counted) → look_up counted_word all_counted (counted_word x) ≡ Some x
-counted_found counts.Renderers = refl
-counted_found counts.Blobs = refl
-counted_found counts.Segments = refl
-counted_found counts.Pieces = refl
-counted_found counts.Views = refl
-counted_found counts.Readers = refl
-counted_found counts.Urls = refl
-counted_found counts.Files = refl
-
-same_counted : (x y : Counted) → counted_fields x ≡ counted_fields y → x ≡ y
-same_counted x y same = some_same x y (sym (counted_found x) ∙ ap (λ (texts : List (List ℕ)). look_up counted_word all_counted (front texts)) same ∙ counted_found y)
 
 same_pieces : (ps qs : List PieceNo) → AllByRecursion (λ (p : PieceNo). p.0 < 2 ^ 32) ps → AllByRecursion (λ (p : PieceNo). p.0 < 2 ^ 32) qs → piece_fields ps ≡ piece_fields qs → ps ≡ qs
 same_pieces [] [] fits less same = refl

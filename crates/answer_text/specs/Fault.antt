@@ -5,7 +5,8 @@ use Rattle.blob_words.specs.declared.counted.Counted.{Counted}
 use Rattle.text_fields.specs.Kind.{Kind, number_32, number_64, name, file_name, content_type, some_bytes, broken, ending, status, switch, Spells, AllSpell}
 use Rattle.text_fields.specs.declared.line_fault.LineFault.{LineFault}
 use Rattle.text_fields.specs.declared.line_fault.LineFault.TheVariants as line_faults
-use Rattle.answer_text.specs.Word.{word_text, refusal_text, plan_text, counted_fields}
+use Rattle.text_fields.specs.Counted.{counted_fields}
+use Rattle.answer_text.specs.Word.{word_text, refusal_text, plan_text}
 use Rattle.answer_text.specs.declared.answer_word.AnswerWord.{AnswerWord}
 use Rattle.answer_text.specs.declared.answer_word.AnswerWord.TheVariants as words
 use Rattle.answer_text.specs.declared.plan_word.PlanWord.{PlanWord}

@@ -13,7 +13,8 @@ use Rattle.session_script.specs.Line.{line_of, HasSpelling}
 use Rattle.text_fields.specs.Kind.{IsContentType}
 use Rattle.text_fields.specs.Status.{status_word, is_told, is_broken, is_end, switch_word}
 use Rattle.session_script.specs.declared.event.Event.{Event}
-use Rattle.answer_text.specs.Word.{word_text, refusal_text, plan_text, counted_fields}
+use Rattle.text_fields.specs.Counted.{counted_fields}
+use Rattle.answer_text.specs.Word.{word_text, refusal_text, plan_text}
 use Rattle.answer_text.specs.declared.answer.Answer.{Answer}
 use Rattle.answer_text.specs.declared.answer.Answer.TheVariants as answers
 use Rattle.answer_text.specs.declared.answer_word.AnswerWord.{AnswerWord}

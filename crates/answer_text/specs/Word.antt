@@ -1,7 +1,5 @@
--- The words of answers, refusals, plans and of what is counted. Own format.
-use Rattle.std.specs.Prelude.{ℕ, List, [], ◌∷◌, codes}
-use Rattle.blob_words.specs.declared.counted.Counted.{Counted}
-use Rattle.blob_words.specs.declared.counted.Counted.TheVariants as counts
+-- The words of answers, refusals and plans. Own format.
+use Rattle.std.specs.Prelude.{ℕ, List, codes}
 use Rattle.answer_text.specs.declared.answer_word.AnswerWord.{AnswerWord}
 use Rattle.answer_text.specs.declared.answer_word.AnswerWord.TheVariants as words
 use Rattle.answer_text.specs.declared.plan_word.PlanWord.{PlanWord}
@@ -74,14 +72,3 @@ plan_text plan_words.None = codes "none"
 plan_text plan_words.Inline = codes "inline"
 plan_text plan_words.Shared = codes "shared"
 plan_text plan_words.File = codes "file"
-
--- the word of what is counted, and how many a session may have of it
-abbrev pub counted_fields : Counted → List (List ℕ)
-counted_fields counts.Renderers = codes "renderers" ∷ codes "1024" ∷ []
-counted_fields counts.Blobs = codes "blobs" ∷ codes "65536" ∷ []
-counted_fields counts.Segments = codes "segments" ∷ codes "65536" ∷ []
-counted_fields counts.Pieces = codes "pieces" ∷ codes "65536" ∷ []
-counted_fields counts.Views = codes "views" ∷ codes "4194304" ∷ []
-counted_fields counts.Readers = codes "readers" ∷ codes "4096" ∷ []
-counted_fields counts.Urls = codes "urls" ∷ codes "16384" ∷ []
-counted_fields counts.Files = codes "files" ∷ codes "16384" ∷ []

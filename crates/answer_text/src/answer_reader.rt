@@ -6,7 +6,8 @@ ghost use Rattle.text_fields.specs.Output.{output, IsPut};
 ghost use Rattle.text_fields.specs.Reading.{split};
 ghost use Rattle.answer_text.specs.Fault.{IsAnswer, IsJob, IsPaged, ReadsAs};
 ghost use Rattle.answer_text.specs.Reading.{ReadsAnswer};
-ghost use Rattle.answer_text.specs.Text.{word_of, answer_fields, answer_text, piece_fields, HasText};
+ghost use Rattle.answer_text.specs.Text.{word_of, answer_fields, answer_text, piece_fields};
+ghost use Rattle.answer_text.specs.Text.{HasText};
 
 use crate::answer::Answer;
 use crate::answer_word::AnswerWord;
@@ -34,69 +35,55 @@ fn read_good(fields: &Fields<'_>) -> Result<Answer, TextFault>
 fn read_refused(alloc: Global, fields: &mut Fields<'_>) -> Result<Answer, TextFault>
     ensures { ReadsAnswer AnswerWord.Refused fields.old result }
 {
-    match read_refusal(alloc, fields) {
-        Ok(refusal) => Ok(Answer::Refused(refusal)),
-        Err(fault) => Err(fault),
-    }
+    let refusal = read_refusal(alloc, fields)?;
+    Ok(Answer::Refused(refusal))
 }
 
 fn read_planned(alloc: Global, fields: &mut Fields<'_>) -> Result<Answer, TextFault>
     ensures { ReadsAnswer AnswerWord.Planned fields.old result }
 {
-    match read_plan(alloc, fields) {
-        Ok(plan) => Ok(Answer::Planned(plan)),
-        Err(fault) => Err(fault),
-    }
+    let plan = read_plan(alloc, fields)?;
+    Ok(Answer::Planned(plan))
 }
 
 fn read_broken(alloc: Global, fields: &mut Fields<'_>) -> Result<Answer, TextFault>
     ensures { ReadsAnswer AnswerWord.Broken fields.old result }
 {
-    match read_row::<(BlobName, Broken)>(alloc, fields) {
-        Ok((b, status)) => Ok(Answer::Broken(b, status.0)),
-        Err(fault) => Err(fault),
-    }
+    let (b, status) = read_row::<(BlobName, Broken)>(alloc, fields)?;
+    Ok(Answer::Broken(b, status.0))
 }
 
 fn read_taken(alloc: Global, fields: &mut Fields<'_>) -> Result<Answer, TextFault>
     ensures { ReadsAnswer AnswerWord.Taken fields.old result }
 {
-    match read_row::<(u32,)>(alloc, fields) {
-        Ok((seg,)) => Ok(Answer::Taken(seg)),
-        Err(fault) => Err(fault),
-    }
+    let (seg,) = read_row::<(u32,)>(alloc, fields)?;
+    Ok(Answer::Taken(seg))
 }
 
 fn read_stored(alloc: Global, fields: &mut Fields<'_>) -> Result<Answer, TextFault>
     ensures { ReadsAnswer AnswerWord.Stored fields.old result }
 {
-    match read_row::<(PageNo, PieceNo)>(alloc, fields) {
-        Ok((f, p)) => Ok(Answer::Stored(f, p)),
-        Err(fault) => Err(fault),
-    }
+    let (f, p) = read_row::<(PageNo, PieceNo)>(alloc, fields)?;
+    Ok(Answer::Stored(f, p))
 }
 
 fn read_store_failed(alloc: Global, fields: &mut Fields<'_>) -> Result<Answer, TextFault>
     ensures { ReadsAnswer AnswerWord.StoreFailed fields.old result }
 {
-    match read_row::<(PageNo,)>(alloc, fields) {
-        Ok((f,)) => Ok(Answer::StoreFailed(f)),
-        Err(fault) => Err(fault),
-    }
+    let (f,) = read_row::<(PageNo,)>(alloc, fields)?;
+    Ok(Answer::StoreFailed(f))
 }
 
 fn read_told(alloc: Global, fields: &mut Fields<'_>) -> Result<Answer, TextFault>
     ensures { ReadsAnswer AnswerWord.Told fields.old result }
 {
-    match read_row::<(BlobName, u64, ContentType, Told)>(alloc, fields) {
-        Ok((b, size, kind, status)) => Ok(Answer::Told {
-            b,
-            size,
-            kind: kind.0,
-            status: status.0,
-        }),
-        Err(fault) => Err(fault),
-    }
+    let (b, size, kind, status) = read_row::<(BlobName, u64, ContentType, Told)>(alloc, fields)?;
+    Ok(Answer::Told {
+        b,
+        size,
+        kind: kind.0,
+        status: status.0,
+    })
 }
 
 fn read_revoked(fields: &Fields<'_>) -> Result<Answer, TextFault>
@@ -120,209 +107,167 @@ fn read_nothing(fields: &Fields<'_>) -> Result<Answer, TextFault>
 fn read_opened(alloc: Global, fields: &mut Fields<'_>) -> Result<Answer, TextFault>
     ensures { ReadsAnswer AnswerWord.Opened fields.old result }
 {
-    match read_row::<(ReaderId, u64, ContentType)>(alloc, fields) {
-        Ok((q, size, kind)) => Ok(Answer::Opened {
-            q,
-            size,
-            kind: kind.0,
-        }),
-        Err(fault) => Err(fault),
-    }
+    let (q, size, kind) = read_row::<(ReaderId, u64, ContentType)>(alloc, fields)?;
+    Ok(Answer::Opened {
+        q,
+        size,
+        kind: kind.0,
+    })
 }
 
 fn read_given(alloc: Global, fields: &mut Fields<'_>) -> Result<Answer, TextFault>
     ensures { ReadsAnswer AnswerWord.Given fields.old result }
 {
-    match read_row::<(ReaderId, SomeOctets)>(alloc, fields) {
-        Ok((q, octets)) => Ok(Answer::Given(q, octets.0)),
-        Err(fault) => Err(fault),
-    }
+    let (q, octets) = read_row::<(ReaderId, SomeOctets)>(alloc, fields)?;
+    Ok(Answer::Given(q, octets.0))
 }
 
 fn read_wait(alloc: Global, fields: &mut Fields<'_>) -> Result<Answer, TextFault>
     ensures { ReadsAnswer AnswerWord.Wait fields.old result }
 {
-    match read_row::<(ReaderId,)>(alloc, fields) {
-        Ok((q,)) => Ok(Answer::Wait(q)),
-        Err(fault) => Err(fault),
-    }
+    let (q,) = read_row::<(ReaderId,)>(alloc, fields)?;
+    Ok(Answer::Wait(q))
 }
 
 fn read_ended(alloc: Global, fields: &mut Fields<'_>) -> Result<Answer, TextFault>
     ensures { ReadsAnswer AnswerWord.Ended fields.old result }
 {
-    match read_row::<(ReaderId, Ending)>(alloc, fields) {
-        Ok((q, status)) => Ok(Answer::Ended(q, status.0)),
-        Err(fault) => Err(fault),
-    }
+    let (q, status) = read_row::<(ReaderId, Ending)>(alloc, fields)?;
+    Ok(Answer::Ended(q, status.0))
 }
 
 fn read_file_changed(alloc: Global, fields: &mut Fields<'_>) -> Result<Answer, TextFault>
     ensures { ReadsAnswer AnswerWord.FileChanged fields.old result }
 {
-    match read_row::<(ReaderId, FileName)>(alloc, fields) {
-        Ok((q, file)) => Ok(Answer::FileChanged(q, file)),
-        Err(fault) => Err(fault),
-    }
+    let (q, file) = read_row::<(ReaderId, FileName)>(alloc, fields)?;
+    Ok(Answer::FileChanged(q, file))
 }
 
 fn read_page_fault(alloc: Global, fields: &mut Fields<'_>) -> Result<Answer, TextFault>
     ensures { ReadsAnswer AnswerWord.PageFault fields.old result }
 {
-    match read_row::<(ReaderId, PageNo)>(alloc, fields) {
-        Ok((q, f)) => Ok(Answer::PageFault(q, f)),
-        Err(fault) => Err(fault),
-    }
+    let (q, f) = read_row::<(ReaderId, PageNo)>(alloc, fields)?;
+    Ok(Answer::PageFault(q, f))
 }
 
 fn read_handle_failed(alloc: Global, fields: &mut Fields<'_>) -> Result<Answer, TextFault>
     ensures { ReadsAnswer AnswerWord.HandleFailed fields.old result }
 {
-    match read_row::<(ReaderId, u32)>(alloc, fields) {
-        Ok((q, k)) => Ok(Answer::HandleFailed(q, k)),
-        Err(fault) => Err(fault),
-    }
+    let (q, k) = read_row::<(ReaderId, u32)>(alloc, fields)?;
+    Ok(Answer::HandleFailed(q, k))
 }
 
 fn read_paged(alloc: Global, fields: &mut Fields<'_>) -> Result<Answer, TextFault>
     ensures { ReadsAnswer AnswerWord.Paged fields.old result }
 {
-    match read_paged_pieces(alloc, fields) {
-        Ok((j, f, pieces)) => Ok(Answer::Paged(j, f, pieces)),
-        Err(fault) => Err(fault),
-    }
+    let (j, f, pieces) = read_paged_pieces(alloc, fields)?;
+    Ok(Answer::Paged(j, f, pieces))
 }
 
 fn read_empty(alloc: Global, fields: &mut Fields<'_>) -> Result<Answer, TextFault>
     ensures { ReadsAnswer AnswerWord.Empty fields.old result }
 {
-    match read_row::<(JobNo,)>(alloc, fields) {
-        Ok((j,)) => Ok(Answer::Empty(j)),
-        Err(fault) => Err(fault),
-    }
+    let (j,) = read_row::<(JobNo,)>(alloc, fields)?;
+    Ok(Answer::Empty(j))
 }
 
 fn read_page_failed(alloc: Global, fields: &mut Fields<'_>) -> Result<Answer, TextFault>
     ensures { ReadsAnswer AnswerWord.PageFailed fields.old result }
 {
-    match read_row::<(JobNo, PageNo)>(alloc, fields) {
-        Ok((j, f)) => Ok(Answer::PageFailed(j, f)),
-        Err(fault) => Err(fault),
-    }
+    let (j, f) = read_row::<(JobNo, PageNo)>(alloc, fields)?;
+    Ok(Answer::PageFailed(j, f))
 }
 
 fn read_moved(alloc: Global, fields: &mut Fields<'_>) -> Result<Answer, TextFault>
     ensures { ReadsAnswer AnswerWord.Moved fields.old result }
 {
-    match read_paged_pieces(alloc, fields) {
-        Ok((j, f, pieces)) => Ok(Answer::Moved(j, f, pieces)),
-        Err(fault) => Err(fault),
-    }
+    let (j, f, pieces) = read_paged_pieces(alloc, fields)?;
+    Ok(Answer::Moved(j, f, pieces))
 }
 
 fn read_move_failed(alloc: Global, fields: &mut Fields<'_>) -> Result<Answer, TextFault>
     ensures { ReadsAnswer AnswerWord.MoveFailed fields.old result }
 {
-    match read_row::<(JobNo, PageNo)>(alloc, fields) {
-        Ok((j, f)) => Ok(Answer::MoveFailed(j, f)),
-        Err(fault) => Err(fault),
-    }
+    let (j, f) = read_row::<(JobNo, PageNo)>(alloc, fields)?;
+    Ok(Answer::MoveFailed(j, f))
 }
 
 fn read_move_unread(alloc: Global, fields: &mut Fields<'_>) -> Result<Answer, TextFault>
     ensures { ReadsAnswer AnswerWord.MoveUnread fields.old result }
 {
-    match read_row::<(JobNo, PageNo)>(alloc, fields) {
-        Ok((j, f)) => Ok(Answer::MoveUnread(j, f)),
-        Err(fault) => Err(fault),
-    }
+    let (j, f) = read_row::<(JobNo, PageNo)>(alloc, fields)?;
+    Ok(Answer::MoveUnread(j, f))
 }
 
 fn read_lost_job(alloc: Global, fields: &mut Fields<'_>) -> Result<Answer, TextFault>
     ensures { ReadsAnswer AnswerWord.LostJob fields.old result }
 {
-    match read_row::<(JobNo,)>(alloc, fields) {
-        Ok((j,)) => Ok(Answer::LostJob(j)),
-        Err(fault) => Err(fault),
-    }
+    let (j,) = read_row::<(JobNo,)>(alloc, fields)?;
+    Ok(Answer::LostJob(j))
 }
 
 fn read_held(alloc: Global, fields: &mut Fields<'_>) -> Result<Answer, TextFault>
     ensures { ReadsAnswer AnswerWord.Held fields.old result }
 {
-    match read_row::<(u32, u32, u32, u32, bool)>(alloc, fields) {
-        Ok((blobs, urls, readers, waiting, paging)) => Ok(Answer::Held {
-            blobs,
-            urls,
-            readers,
-            waiting,
-            paging,
-        }),
-        Err(fault) => Err(fault),
-    }
+    let (blobs, urls, readers, waiting, paging) = read_row::<(u32, u32, u32, u32, bool)>(
+        alloc, fields,
+    )?;
+    Ok(Answer::Held {
+        blobs,
+        urls,
+        readers,
+        waiting,
+        paging,
+    })
 }
 
 fn read_dropped(alloc: Global, fields: &mut Fields<'_>) -> Result<Answer, TextFault>
     ensures { ReadsAnswer AnswerWord.Dropped fields.old result }
 {
-    match read_row::<(BlobName,)>(alloc, fields) {
-        Ok((b,)) => Ok(Answer::Dropped(b)),
-        Err(fault) => Err(fault),
-    }
+    let (b,) = read_row::<(BlobName,)>(alloc, fields)?;
+    Ok(Answer::Dropped(b))
 }
 
 fn read_done(alloc: Global, fields: &mut Fields<'_>) -> Result<Answer, TextFault>
     ensures { ReadsAnswer AnswerWord.Done fields.old result }
 {
-    match read_row::<(BlobName,)>(alloc, fields) {
-        Ok((b,)) => Ok(Answer::Done(b)),
-        Err(fault) => Err(fault),
-    }
+    let (b,) = read_row::<(BlobName,)>(alloc, fields)?;
+    Ok(Answer::Done(b))
 }
 
 fn read_removed(alloc: Global, fields: &mut Fields<'_>) -> Result<Answer, TextFault>
     ensures { ReadsAnswer AnswerWord.Removed fields.old result }
 {
-    match read_row::<(PageNo,)>(alloc, fields) {
-        Ok((f,)) => Ok(Answer::Removed(f)),
-        Err(fault) => Err(fault),
-    }
+    let (f,) = read_row::<(PageNo,)>(alloc, fields)?;
+    Ok(Answer::Removed(f))
 }
 
 fn read_left(alloc: Global, fields: &mut Fields<'_>) -> Result<Answer, TextFault>
     ensures { ReadsAnswer AnswerWord.Left fields.old result }
 {
-    match read_row::<(PageNo,)>(alloc, fields) {
-        Ok((f,)) => Ok(Answer::Left(f)),
-        Err(fault) => Err(fault),
-    }
+    let (f,) = read_row::<(PageNo,)>(alloc, fields)?;
+    Ok(Answer::Left(f))
 }
 
 fn read_granted(alloc: Global, fields: &mut Fields<'_>) -> Result<Answer, TextFault>
     ensures { ReadsAnswer AnswerWord.Granted fields.old result }
 {
-    match read_row::<(BlobName,)>(alloc, fields) {
-        Ok((b,)) => Ok(Answer::Granted(b)),
-        Err(fault) => Err(fault),
-    }
+    let (b,) = read_row::<(BlobName,)>(alloc, fields)?;
+    Ok(Answer::Granted(b))
 }
 
 fn read_job(alloc: Global, fields: &mut Fields<'_>) -> Result<Answer, TextFault>
     ensures { ReadsAnswer AnswerWord.Job fields.old result }
 {
-    match read_job_pieces(alloc, fields) {
-        Ok((j, pieces)) => Ok(Answer::Job(j, pieces)),
-        Err(fault) => Err(fault),
-    }
+    let (j, pieces) = read_job_pieces(alloc, fields)?;
+    Ok(Answer::Job(j, pieces))
 }
 
 fn read_compacting(alloc: Global, fields: &mut Fields<'_>) -> Result<Answer, TextFault>
     ensures { ReadsAnswer AnswerWord.Compacting fields.old result }
 {
-    match read_paged_pieces(alloc, fields) {
-        Ok((j, f, pieces)) => Ok(Answer::Compacting(j, f, pieces)),
-        Err(fault) => Err(fault),
-    }
+    let (j, f, pieces) = read_paged_pieces(alloc, fields)?;
+    Ok(Answer::Compacting(j, f, pieces))
 }
 
 fn read_behind(

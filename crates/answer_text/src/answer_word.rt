@@ -1,8 +1,9 @@
 //! The words that answers begin with.
 
-ghost use Rattle.std.specs.Prelude.{◌≡◌, ◌≢◌, MatchOption};
 ghost use Rattle.answer_text.specs.Word.{word_text};
-ghost use Rattle.answer_text.specs.declared.answer_word.AnswerWord.{AnswerWord as AAnswerWord};
+ghost use Rattle.text_fields.specs.Keyword.{IsWordOf};
+
+use text_fields::keyword::{Keyword, find};
 
 /// The word that an answer begins with.
 #[derive(Clone, Copy, Debug, PartialEq, Eq)]
@@ -41,11 +42,46 @@ pub enum AnswerWord {
     Compacting,
 }
 
-impl AnswerWord {
-    /// The text of the word.
-    pub fn text(self) -> &'static [u8]
-        ensures { result.now ≡ word_text self }
-    {
+// All words.
+const WORDS: [AnswerWord; 32] = [
+    AnswerWord::Good,
+    AnswerWord::Refused,
+    AnswerWord::Planned,
+    AnswerWord::Broken,
+    AnswerWord::Taken,
+    AnswerWord::Stored,
+    AnswerWord::StoreFailed,
+    AnswerWord::Told,
+    AnswerWord::Revoked,
+    AnswerWord::Nothing,
+    AnswerWord::Opened,
+    AnswerWord::Given,
+    AnswerWord::Wait,
+    AnswerWord::Ended,
+    AnswerWord::FileChanged,
+    AnswerWord::PageFault,
+    AnswerWord::HandleFailed,
+    AnswerWord::Paged,
+    AnswerWord::Empty,
+    AnswerWord::PageFailed,
+    AnswerWord::Moved,
+    AnswerWord::MoveFailed,
+    AnswerWord::MoveUnread,
+    AnswerWord::LostJob,
+    AnswerWord::Held,
+    AnswerWord::Dropped,
+    AnswerWord::Done,
+    AnswerWord::Removed,
+    AnswerWord::Left,
+    AnswerWord::Granted,
+    AnswerWord::Job,
+    AnswerWord::Compacting,
+];
+
+impl Keyword for AnswerWord {
+    ghost text = { word_text };
+
+    fn text(self) -> &'static [u8] {
         match self {
             AnswerWord::Good => b"ok",
             AnswerWord::Refused => b"refused",
@@ -81,107 +117,13 @@ impl AnswerWord {
             AnswerWord::Compacting => b"compact",
         }
     }
+}
 
+impl AnswerWord {
     /// The word of this text, where there is one.
     pub fn from_text(text: &[u8]) -> Option<AnswerWord>
-        ensures { MatchOption result ((word : AAnswerWord) → text.now ≢ word_text word) (λ word. text.now ≡ word_text word) }
+        ensures { IsWordOf word_text text.now result }
     {
-        if text == b"ok".as_slice() {
-            return Some(AnswerWord::Good);
-        }
-        if text == b"refused".as_slice() {
-            return Some(AnswerWord::Refused);
-        }
-        if text == b"plan".as_slice() {
-            return Some(AnswerWord::Planned);
-        }
-        if text == b"broken".as_slice() {
-            return Some(AnswerWord::Broken);
-        }
-        if text == b"taken".as_slice() {
-            return Some(AnswerWord::Taken);
-        }
-        if text == b"stored".as_slice() {
-            return Some(AnswerWord::Stored);
-        }
-        if text == b"store-failed".as_slice() {
-            return Some(AnswerWord::StoreFailed);
-        }
-        if text == b"status".as_slice() {
-            return Some(AnswerWord::Told);
-        }
-        if text == b"revoked".as_slice() {
-            return Some(AnswerWord::Revoked);
-        }
-        if text == b"nothing".as_slice() {
-            return Some(AnswerWord::Nothing);
-        }
-        if text == b"opened".as_slice() {
-            return Some(AnswerWord::Opened);
-        }
-        if text == b"bytes".as_slice() {
-            return Some(AnswerWord::Given);
-        }
-        if text == b"wait".as_slice() {
-            return Some(AnswerWord::Wait);
-        }
-        if text == b"end".as_slice() {
-            return Some(AnswerWord::Ended);
-        }
-        if text == b"file-changed".as_slice() {
-            return Some(AnswerWord::FileChanged);
-        }
-        if text == b"page-fault".as_slice() {
-            return Some(AnswerWord::PageFault);
-        }
-        if text == b"handle-failed".as_slice() {
-            return Some(AnswerWord::HandleFailed);
-        }
-        if text == b"paged".as_slice() {
-            return Some(AnswerWord::Paged);
-        }
-        if text == b"empty".as_slice() {
-            return Some(AnswerWord::Empty);
-        }
-        if text == b"page-failed".as_slice() {
-            return Some(AnswerWord::PageFailed);
-        }
-        if text == b"moved".as_slice() {
-            return Some(AnswerWord::Moved);
-        }
-        if text == b"move-failed".as_slice() {
-            return Some(AnswerWord::MoveFailed);
-        }
-        if text == b"move-unread".as_slice() {
-            return Some(AnswerWord::MoveUnread);
-        }
-        if text == b"lost".as_slice() {
-            return Some(AnswerWord::LostJob);
-        }
-        if text == b"held".as_slice() {
-            return Some(AnswerWord::Held);
-        }
-        if text == b"dropped".as_slice() {
-            return Some(AnswerWord::Dropped);
-        }
-        if text == b"done".as_slice() {
-            return Some(AnswerWord::Done);
-        }
-        if text == b"removed".as_slice() {
-            return Some(AnswerWord::Removed);
-        }
-        if text == b"left".as_slice() {
-            return Some(AnswerWord::Left);
-        }
-        if text == b"granted".as_slice() {
-            return Some(AnswerWord::Granted);
-        }
-        if text == b"job".as_slice() {
-            return Some(AnswerWord::Job);
-        }
-        if text == b"compact".as_slice() {
-            return Some(AnswerWord::Compacting);
-        }
-        None
+        find(&WORDS, text)
     }
 }

@@ -13,6 +13,7 @@ use blob_source::Sink;
 use blob_words::{Failed, JobNo, PageNo, PieceList};
 use text_fields::buffer::Buffer;
 use text_fields::field::{Broken, Ending, Spell, Told};
+use text_fields::keyword::Keyword;
 use text_fields::put::put_each;
 use text_fields::values::Values;
 
@@ -61,7 +62,7 @@ fn put_job_pieces<K: Sink>(
     j: &JobNo,
     ps: &PieceList,
 ) -> Result<(), Failed>
-    ensures { IsPutTo K.held K.faults out.old out.new buffer.old buffer.new
+    ensures { IsPutTo K.Sink out.old out.new buffer.old buffer.new
         (fields 32 (decimal j.now.0 ∷ piece_fields ps.now)) result }
 {
     match (j,).put_all(buffer, out, b' ') {
@@ -77,7 +78,7 @@ fn put_paged_pieces<K: Sink>(
     f: &PageNo,
     ps: &PieceList,
 ) -> Result<(), Failed>
-    ensures { IsPutTo K.held K.faults out.old out.new buffer.old buffer.new
+    ensures { IsPutTo K.Sink out.old out.new buffer.old buffer.new
         (fields 32 (decimal j.now.0 ∷ decimal f.now.0 ∷ piece_fields ps.now)) result }
 {
     match (j, f).put_all(buffer, out, b' ') {
@@ -87,7 +88,7 @@ fn put_paged_pieces<K: Sink>(
 }
 
 fn put_behind<K: Sink>(buffer: &mut Buffer, out: &mut K, answer: &Answer) -> Result<(), Failed>
-    ensures { IsPutTo K.held K.faults out.old out.new buffer.old buffer.new
+    ensures { IsPutTo K.Sink out.old out.new buffer.old buffer.new
         (fields 32 (answer_fields answer.now)) result }
 {
     match answer {

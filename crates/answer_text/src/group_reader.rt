@@ -4,7 +4,8 @@ ghost use Rattle.std.specs.Prelude.{◌≡◌, ◌∷◌, ◌++◌, ◌≤◌, �
 ghost use Rattle.session_script.specs.Line.{HasSpelling};
 ghost use Rattle.text_fields.specs.Reading.{split};
 ghost use Rattle.answer_text.specs.Fault.{IsTally, ReadsAs};
-ghost use Rattle.answer_text.specs.Groups.{HasNoGroup, ReadsBehind, ReadsEventLine, ReadsFurther, ReadsGroup};
+ghost use Rattle.answer_text.specs.Groups.{HasNoGroup, ReadsBehind, ReadsEventLine, ReadsFurther};
+ghost use Rattle.answer_text.specs.Groups.{ReadsGroup};
 ghost use Rattle.answer_text.specs.Text.{tally_text, TallyHasText};
 ghost use Rattle.answer_text.specs.declared.group_fault.GroupFault.TheVariants as group_faults;
 

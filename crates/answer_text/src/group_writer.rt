@@ -2,8 +2,9 @@
 
 ghost use Rattle.std.specs.Prelude.{◌≡◌, ◌++◌, [], codes, OnOk, OnErr};
 ghost use Rattle.std.specs.List.{flat_map};
-ghost use Rattle.text_fields.specs.Output.{IsPutTo, IsStreamed};
-ghost use Rattle.answer_text.specs.Text.{answer_line, event_line, group_text, tally_line, tally_text};
+ghost use Rattle.text_fields.specs.Output.{IsPutTo, IsStreamedTo};
+ghost use Rattle.answer_text.specs.Text.{answer_line, event_line, group_text, tally_line};
+ghost use Rattle.answer_text.specs.Text.{tally_text};
 
 use crate::answer::Answers;
 use crate::group::Group;
@@ -18,8 +19,7 @@ use text_fields::stream::{print, stream, stream_through};
 use text_fields::values::Values;
 
 fn put_event_line<K: Sink>(buffer: &mut Buffer, out: &mut K, event: &Event) -> Result<(), Failed>
-    ensures { IsPutTo K.held K.faults out.old out.new buffer.old buffer.new
-        (event_line event.now) result }
+    ensures { IsPutTo K.Sink out.old out.new buffer.old buffer.new (event_line event.now) result }
 {
     match buffer.put(out, b"> ") {
         Ok(()) => put_line(buffer, out, event),
@@ -28,8 +28,7 @@ fn put_event_line<K: Sink>(buffer: &mut Buffer, out: &mut K, event: &Event) -> R
 }
 
 fn put_numbers<K: Sink>(buffer: &mut Buffer, out: &mut K, tally: &Tally) -> Result<(), Failed>
-    ensures { IsPutTo K.held K.faults out.old out.new buffer.old buffer.new
-        (tally_text tally.now) result }
+    ensures { IsPutTo K.Sink out.old out.new buffer.old buffer.new (tally_text tally.now) result }
 {
     match buffer.put_byte(out, b'=') {
         Ok(()) => (tally.pieces, tally.memory, tally.files, tally.disk).put_all(buffer, out, b' '),
@@ -38,8 +37,7 @@ fn put_numbers<K: Sink>(buffer: &mut Buffer, out: &mut K, tally: &Tally) -> Resu
 }
 
 fn put_tally_line<K: Sink>(buffer: &mut Buffer, out: &mut K, tally: &Tally) -> Result<(), Failed>
-    ensures { IsPutTo K.held K.faults out.old out.new buffer.old buffer.new
-        (tally_line tally.now) result }
+    ensures { IsPutTo K.Sink out.old out.new buffer.old buffer.new (tally_line tally.now) result }
 {
     match put_numbers(buffer, out, tally) {
         Ok(()) => buffer.put_byte(out, b'\n'),
@@ -53,7 +51,7 @@ fn put_behind<K: Sink>(
     answers: &Answers,
     tally: &Tally,
 ) -> Result<(), Failed>
-    ensures { IsPutTo K.held K.faults out.old out.new buffer.old buffer.new
+    ensures { IsPutTo K.Sink out.old out.new buffer.old buffer.new
         (flat_map answer_line answers.now ++ tally_line tally.now) result }
 {
     match put_lines(buffer, out, answers.as_slice()) {
@@ -79,7 +77,7 @@ impl Spell for Group {
 /// `Failed`, which comes only where the sink's count rose, a front of the text was written that
 /// lacks some byte.
 pub fn stream_group<K: Sink>(group: &Group, out: &mut K) -> Result<(), Failed>
-    ensures { IsStreamed (K.held out.old) (K.held out.new) (K.faults out.old) (K.faults out.new) (group_text group.now) result }
+    ensures { IsStreamedTo K.Sink out.old out.new (group_text group.now) result }
 {
     stream(group, out)
 }
@@ -91,8 +89,7 @@ pub fn stream_group_through<K: Sink>(
     out: &mut K,
 ) -> Result<(), Failed>
     requires { buffer.old ≡ [] }
-    ensures streamed { IsStreamed (K.held out.old) (K.held out.new)
-        (K.faults out.old) (K.faults out.new) (group_text group.now) result }
+    ensures streamed { IsStreamedTo K.Sink out.old out.new (group_text group.now) result }
     ensures empty { OnOk result (buffer.new ≡ []) }
 {
     stream_through(group, buffer, out)

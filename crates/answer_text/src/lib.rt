@@ -1,24 +1,26 @@
 //! The groups of a transcript: each line's event with its answers and the tally behind it.
 #![tactic(auto)]
 
+// Contracts above see the types of `answer`, `group` and `refusal`.
 pub mod answer;
-pub mod answer_reader;
-pub mod answer_word;
-pub mod answer_writer;
-pub mod further;
+mod answer_reader;
+mod answer_word;
+mod answer_writer;
+mod further;
 pub mod group;
-pub mod group_fault;
-pub mod group_reader;
-pub mod group_writer;
+mod group_fault;
+mod group_reader;
+mod group_writer;
+// The laws, which are contracts of public calls.
 pub mod laws;
-pub mod lines;
-pub mod plan_word;
-pub mod plans;
+mod lines;
+mod plan_word;
+mod plans;
 pub mod refusal;
-pub mod refusal_word;
-pub mod refusals;
-pub mod rows;
-pub mod text_fault;
+mod refusal_word;
+mod refusals;
+mod rows;
+mod text_fault;
 
 pub use answer::{Answer, Answers};
 pub use group::{Group, Groups};

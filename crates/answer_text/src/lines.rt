@@ -1,6 +1,7 @@
 //! The lines of a text, taken one by one.
 
-ghost use Rattle.std.specs.Prelude.{◌≡◌, ◌==◌, ◌∷◌, ◌++◌, ◌-◌, ◌≤◌, false, position, length, MatchOption};
+ghost use Rattle.std.specs.Prelude.{◌≡◌, ◌==◌, ◌∷◌, ◌++◌, ◌-◌, ◌≤◌, false, position, length};
+ghost use Rattle.std.specs.Prelude.{MatchOption};
 ghost use Rattle.blob_source.specs.Lines.{has_line_feed};
 
 /// What is left of a text.
@@ -19,7 +20,8 @@ fn find_feed(text: &[u8]) -> Option<usize>
 
 // The line in front of the first line feed, and what stands behind it.
 fn cut(text: &[u8]) -> Option<(&[u8], &[u8])>
-    ensures { MatchOption result (has_line_feed text.now ≡ false) (λ v. (has_line_feed v.0.now ≡ false) × (text.now ≡ v.0.now ++ 10 ∷ v.1.now)) }
+    ensures { MatchOption result (has_line_feed text.now ≡ false)
+        (λ v. (has_line_feed v.0.now ≡ false) × (text.now ≡ v.0.now ++ 10 ∷ v.1.now)) }
 {
     let Some(at) = find_feed(text) else {
         return None;
@@ -52,8 +54,11 @@ impl<'a> Lines<'a> {
     /// Takes the next line without its line feed, where it has one.
     pub fn next(&mut self) -> Option<&'a [u8]>
         ensures { MatchOption result
-            ((has_line_feed self.old.rest.now ≡ false) × (self.new.rest.now ≡ self.old.rest.now) × (self.new.total ≡ self.old.total))
-            (λ line. (has_line_feed line.now ≡ false) × (self.old.rest.now ≡ line.now ++ 10 ∷ self.new.rest.now) × (self.new.total ≡ self.old.total)) }
+            ((has_line_feed self.old.rest.now ≡ false) × (self.new.rest.now ≡ self.old.rest.now)
+            × (self.new.total ≡ self.old.total))
+            (λ line. (has_line_feed line.now ≡ false)
+            × (self.old.rest.now ≡ line.now ++ 10 ∷ self.new.rest.now)
+            × (self.new.total ≡ self.old.total)) }
     {
         match cut(self.rest) {
             Some((line, rest)) => {

@@ -1,8 +1,9 @@
 //! The words of plans.
 
-ghost use Rattle.std.specs.Prelude.{◌≡◌, ◌≢◌, MatchOption};
 ghost use Rattle.answer_text.specs.Word.{plan_text};
-ghost use Rattle.answer_text.specs.declared.plan_word.PlanWord.{PlanWord as APlanWord};
+ghost use Rattle.text_fields.specs.Keyword.{IsWordOf};
+
+use text_fields::keyword::{Keyword, find};
 
 /// The word of a plan.
 #[derive(Clone, Copy, Debug, PartialEq, Eq)]
@@ -13,11 +14,18 @@ pub enum PlanWord {
     File,
 }
 
-impl PlanWord {
-    /// The text of the word.
-    pub fn text(self) -> &'static [u8]
-        ensures { result.now ≡ plan_text self }
-    {
+// All words.
+const PLANS: [PlanWord; 4] = [
+    PlanWord::None,
+    PlanWord::Inline,
+    PlanWord::Shared,
+    PlanWord::File,
+];
+
+impl Keyword for PlanWord {
+    ghost text = { plan_text };
+
+    fn text(self) -> &'static [u8] {
         match self {
             PlanWord::None => b"none",
             PlanWord::Inline => b"inline",
@@ -25,23 +33,13 @@ impl PlanWord {
             PlanWord::File => b"file",
         }
     }
+}
 
+impl PlanWord {
     /// The word of this text, where there is one.
     pub fn from_text(text: &[u8]) -> Option<PlanWord>
-        ensures { MatchOption result ((word : APlanWord) → text.now ≢ plan_text word) (λ word. text.now ≡ plan_text word) }
+        ensures { IsWordOf plan_text text.now result }
     {
-        if text == b"none".as_slice() {
-            return Some(PlanWord::None);
-        }
-        if text == b"inline".as_slice() {
-            return Some(PlanWord::Inline);
-        }
-        if text == b"shared".as_slice() {
-            return Some(PlanWord::Shared);
-        }
-        if text == b"file".as_slice() {
-            return Some(PlanWord::File);
-        }
-        None
+        find(&PLANS, text)
     }
 }

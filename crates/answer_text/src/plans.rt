@@ -60,7 +60,7 @@ pub fn read_plan(alloc: Global, fields: &mut Fields<'_>) -> Result<Plan, TextFau
 
 /// Puts the plan's words, each behind a space; nothing for what is no plan that a blob has.
 pub fn put_plan<K: Sink>(buffer: &mut Buffer, out: &mut K, plan: Plan) -> Result<(), Failed>
-    ensures { IsPutTo K.held K.faults out.old out.new buffer.old buffer.new
+    ensures { IsPutTo K.Sink out.old out.new buffer.old buffer.new
         (fields 32 (plan_fields plan)) result }
 {
     match plan {

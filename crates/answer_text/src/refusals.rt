@@ -1,10 +1,9 @@
 //! The refusals of a transcript, read and put.
 
-ghost use Rattle.std.specs.Prelude.{◌≡◌, ◌≢◌, [], ◌∷◌, MatchOption};
-ghost use Rattle.blob_words.specs.declared.counted.Counted.{Counted as ACounted};
+ghost use Rattle.std.specs.Prelude.{◌≡◌, [], ◌∷◌};
 ghost use Rattle.text_fields.specs.Fields.{fields};
 ghost use Rattle.text_fields.specs.Output.{IsPutTo};
-ghost use Rattle.answer_text.specs.Word.{counted_fields};
+ghost use Rattle.text_fields.specs.Counted.{counted_fields};
 ghost use Rattle.answer_text.specs.Fault.{IsRefusal, ReadsAs};
 ghost use Rattle.answer_text.specs.Reading.{ReadsRefusal};
 ghost use Rattle.answer_text.specs.Text.{refusal_word_of, refusal_fields, RefusalHasText};
@@ -18,126 +17,102 @@ use blob_source::Sink;
 use blob_words::{BlobName, Counted, Failed, JobNo, ReaderId, RendererId};
 use std::alloc::Global;
 use text_fields::buffer::Buffer;
+use text_fields::counted::{counted_of, limit_text};
 use text_fields::field::Spell;
 use text_fields::fields::Fields;
+use text_fields::keyword::Keyword;
 use text_fields::literal::Literal;
 use text_fields::values::Values;
 
 fn read_no_renderer(alloc: Global, fields: &mut Fields<'_>) -> Result<Refusal, TextFault>
     ensures { ReadsRefusal RefusalWord.NoRenderer fields.old result }
 {
-    match read_row::<(RendererId,)>(alloc, fields) {
-        Ok((r,)) => Ok(Refusal::NoRenderer(r)),
-        Err(fault) => Err(fault),
-    }
+    let (r,) = read_row::<(RendererId,)>(alloc, fields)?;
+    Ok(Refusal::NoRenderer(r))
 }
 
 fn read_renderer_used(alloc: Global, fields: &mut Fields<'_>) -> Result<Refusal, TextFault>
     ensures { ReadsRefusal RefusalWord.RendererUsed fields.old result }
 {
-    match read_row::<(RendererId,)>(alloc, fields) {
-        Ok((r,)) => Ok(Refusal::RendererUsed(r)),
-        Err(fault) => Err(fault),
-    }
+    let (r,) = read_row::<(RendererId,)>(alloc, fields)?;
+    Ok(Refusal::RendererUsed(r))
 }
 
 fn read_name_used(alloc: Global, fields: &mut Fields<'_>) -> Result<Refusal, TextFault>
     ensures { ReadsRefusal RefusalWord.NameUsed fields.old result }
 {
-    match read_row::<(BlobName,)>(alloc, fields) {
-        Ok((b,)) => Ok(Refusal::NameUsed(b)),
-        Err(fault) => Err(fault),
-    }
+    let (b,) = read_row::<(BlobName,)>(alloc, fields)?;
+    Ok(Refusal::NameUsed(b))
 }
 
 fn read_no_handle(alloc: Global, fields: &mut Fields<'_>) -> Result<Refusal, TextFault>
     ensures { ReadsRefusal RefusalWord.NoHandle fields.old result }
 {
-    match read_row::<(RendererId, BlobName)>(alloc, fields) {
-        Ok((r, b)) => Ok(Refusal::NoHandle(r, b)),
-        Err(fault) => Err(fault),
-    }
+    let (r, b) = read_row::<(RendererId, BlobName)>(alloc, fields)?;
+    Ok(Refusal::NoHandle(r, b))
 }
 
 fn read_no_such_handle(alloc: Global, fields: &mut Fields<'_>) -> Result<Refusal, TextFault>
     ensures { ReadsRefusal RefusalWord.NoSuchHandle fields.old result }
 {
-    match read_row::<(u32,)>(alloc, fields) {
-        Ok((k,)) => Ok(Refusal::NoSuchHandle(k)),
-        Err(fault) => Err(fault),
-    }
+    let (k,) = read_row::<(u32,)>(alloc, fields)?;
+    Ok(Refusal::NoSuchHandle(k))
 }
 
 fn read_handle_taken(alloc: Global, fields: &mut Fields<'_>) -> Result<Refusal, TextFault>
     ensures { ReadsRefusal RefusalWord.HandleTaken fields.old result }
 {
-    match read_row::<(u32,)>(alloc, fields) {
-        Ok((k,)) => Ok(Refusal::HandleTaken(k)),
-        Err(fault) => Err(fault),
-    }
+    let (k,) = read_row::<(u32,)>(alloc, fields)?;
+    Ok(Refusal::HandleTaken(k))
 }
 
 fn read_no_transport(alloc: Global, fields: &mut Fields<'_>) -> Result<Refusal, TextFault>
     ensures { ReadsRefusal RefusalWord.NoTransport fields.old result }
 {
-    match read_row::<(BlobName,)>(alloc, fields) {
-        Ok((b,)) => Ok(Refusal::NoTransport(b)),
-        Err(fault) => Err(fault),
-    }
+    let (b,) = read_row::<(BlobName,)>(alloc, fields)?;
+    Ok(Refusal::NoTransport(b))
 }
 
 fn read_bad_segment(alloc: Global, fields: &mut Fields<'_>) -> Result<Refusal, TextFault>
     ensures { ReadsRefusal RefusalWord.BadSegment fields.old result }
 {
-    match read_row::<(u32,)>(alloc, fields) {
-        Ok((n,)) => Ok(Refusal::BadSegment(n)),
-        Err(fault) => Err(fault),
-    }
+    let (n,) = read_row::<(u32,)>(alloc, fields)?;
+    Ok(Refusal::BadSegment(n))
 }
 
 fn read_segment_taken(alloc: Global, fields: &mut Fields<'_>) -> Result<Refusal, TextFault>
     ensures { ReadsRefusal RefusalWord.SegmentTaken fields.old result }
 {
-    match read_row::<(u32,)>(alloc, fields) {
-        Ok((n,)) => Ok(Refusal::SegmentTaken(n)),
-        Err(fault) => Err(fault),
-    }
+    let (n,) = read_row::<(u32,)>(alloc, fields)?;
+    Ok(Refusal::SegmentTaken(n))
 }
 
 fn read_segment_length(alloc: Global, fields: &mut Fields<'_>) -> Result<Refusal, TextFault>
     ensures { ReadsRefusal RefusalWord.SegmentLength fields.old result }
 {
-    match read_row::<(u64,)>(alloc, fields) {
-        Ok((n,)) => Ok(Refusal::SegmentLength(n)),
-        Err(fault) => Err(fault),
-    }
+    let (n,) = read_row::<(u64,)>(alloc, fields)?;
+    Ok(Refusal::SegmentLength(n))
 }
 
 fn read_reader_used(alloc: Global, fields: &mut Fields<'_>) -> Result<Refusal, TextFault>
     ensures { ReadsRefusal RefusalWord.ReaderUsed fields.old result }
 {
-    match read_row::<(ReaderId,)>(alloc, fields) {
-        Ok((q,)) => Ok(Refusal::ReaderUsed(q)),
-        Err(fault) => Err(fault),
-    }
+    let (q,) = read_row::<(ReaderId,)>(alloc, fields)?;
+    Ok(Refusal::ReaderUsed(q))
 }
 
 fn read_no_reader(alloc: Global, fields: &mut Fields<'_>) -> Result<Refusal, TextFault>
     ensures { ReadsRefusal RefusalWord.NoReader fields.old result }
 {
-    match read_row::<(ReaderId,)>(alloc, fields) {
-        Ok((q,)) => Ok(Refusal::NoReader(q)),
-        Err(fault) => Err(fault),
-    }
+    let (q,) = read_row::<(ReaderId,)>(alloc, fields)?;
+    Ok(Refusal::NoReader(q))
 }
 
 fn read_range(alloc: Global, fields: &mut Fields<'_>) -> Result<Refusal, TextFault>
     ensures { ReadsRefusal RefusalWord.Range fields.old result }
 {
-    match read_row::<(u64,)>(alloc, fields) {
-        Ok((size,)) => Ok(Refusal::Range(size)),
-        Err(fault) => Err(fault),
-    }
+    let (size,) = read_row::<(u64,)>(alloc, fields)?;
+    Ok(Refusal::Range(size))
 }
 
 fn read_url_form(fields: &Fields<'_>) -> Result<Refusal, TextFault>
@@ -170,19 +145,15 @@ fn read_no_url(fields: &Fields<'_>) -> Result<Refusal, TextFault>
 fn read_no_job(alloc: Global, fields: &mut Fields<'_>) -> Result<Refusal, TextFault>
     ensures { ReadsRefusal RefusalWord.NoJob fields.old result }
 {
-    match read_row::<(JobNo,)>(alloc, fields) {
-        Ok((j,)) => Ok(Refusal::NoJob(j)),
-        Err(fault) => Err(fault),
-    }
+    let (j,) = read_row::<(JobNo,)>(alloc, fields)?;
+    Ok(Refusal::NoJob(j))
 }
 
 fn read_stale_stamp(alloc: Global, fields: &mut Fields<'_>) -> Result<Refusal, TextFault>
     ensures { ReadsRefusal RefusalWord.StaleStamp fields.old result }
 {
-    match read_row::<(u64,)>(alloc, fields) {
-        Ok((last,)) => Ok(Refusal::StaleStamp(last)),
-        Err(fault) => Err(fault),
-    }
+    let (last,) = read_row::<(u64,)>(alloc, fields)?;
+    Ok(Refusal::StaleStamp(last))
 }
 
 fn read_no_file(fields: &Fields<'_>) -> Result<Refusal, TextFault>
@@ -201,52 +172,6 @@ fn read_limits_again(fields: &Fields<'_>) -> Result<Refusal, TextFault>
         return Ok(Refusal::LimitsAgain);
     }
     Err(TextFault::Form)
-}
-
-// The two fields of what is counted.
-fn counted_texts(counted: Counted) -> (&'static [u8], &'static [u8])
-    ensures { counted_fields counted ≡ result.0.now ∷ result.1.now ∷ [] }
-{
-    match counted {
-        Counted::Renderers => (b"renderers", b"1024"),
-        Counted::Blobs => (b"blobs", b"65536"),
-        Counted::Segments => (b"segments", b"65536"),
-        Counted::Pieces => (b"pieces", b"65536"),
-        Counted::Views => (b"views", b"4194304"),
-        Counted::Readers => (b"readers", b"4096"),
-        Counted::Urls => (b"urls", b"16384"),
-        Counted::Files => (b"files", b"16384"),
-    }
-}
-
-fn counted_of(word: &[u8], limit: &[u8]) -> Option<Counted>
-    ensures { MatchOption result ((counted : ACounted) → word.now ∷ limit.now ∷ [] ≢ counted_fields counted) (λ counted. word.now ∷ limit.now ∷ [] ≡ counted_fields counted) }
-{
-    if word == b"renderers".as_slice() && limit == b"1024".as_slice() {
-        return Some(Counted::Renderers);
-    }
-    if word == b"blobs".as_slice() && limit == b"65536".as_slice() {
-        return Some(Counted::Blobs);
-    }
-    if word == b"segments".as_slice() && limit == b"65536".as_slice() {
-        return Some(Counted::Segments);
-    }
-    if word == b"pieces".as_slice() && limit == b"65536".as_slice() {
-        return Some(Counted::Pieces);
-    }
-    if word == b"views".as_slice() && limit == b"4194304".as_slice() {
-        return Some(Counted::Views);
-    }
-    if word == b"readers".as_slice() && limit == b"4096".as_slice() {
-        return Some(Counted::Readers);
-    }
-    if word == b"urls".as_slice() && limit == b"16384".as_slice() {
-        return Some(Counted::Urls);
-    }
-    if word == b"files".as_slice() && limit == b"16384".as_slice() {
-        return Some(Counted::Files);
-    }
-    None
 }
 
 fn read_too_many(fields: &mut Fields<'_>) -> Result<Refusal, TextFault>
@@ -301,7 +226,9 @@ fn read_behind(
 
 /// The refusal that the fields spell.
 pub fn read_refusal(alloc: Global, fields: &mut Fields<'_>) -> Result<Refusal, TextFault>
-    ensures { ReadsAs IsRefusal RefusalHasText (λ refusal. refusal_text (refusal_word_of refusal) ∷ refusal_fields refusal) fields.old result }
+    ensures { ReadsAs IsRefusal RefusalHasText
+        (λ refusal. refusal_text (refusal_word_of refusal) ∷ refusal_fields refusal)
+        fields.old result }
 {
     let Some(first) = fields.next() else {
         return Err(TextFault::Form);
@@ -341,15 +268,20 @@ fn word_of(refusal: &Refusal) -> RefusalWord
 }
 
 fn put_counted<K: Sink>(buffer: &mut Buffer, out: &mut K, counted: Counted) -> Result<(), Failed>
-    ensures { IsPutTo K.held K.faults out.old out.new buffer.old buffer.new
+    ensures { IsPutTo K.Sink out.old out.new buffer.old buffer.new
         (fields 32 (counted_fields counted)) result }
 {
-    let (word, limit) = counted_texts(counted);
-    (Literal { text: word }, Literal { text: limit }).put_all(buffer, out, b' ')
+    let word = Literal {
+        text: counted.text(),
+    };
+    let limit = Literal {
+        text: limit_text(counted),
+    };
+    (word, limit).put_all(buffer, out, b' ')
 }
 
 fn put_behind<K: Sink>(buffer: &mut Buffer, out: &mut K, refusal: &Refusal) -> Result<(), Failed>
-    ensures { IsPutTo K.held K.faults out.old out.new buffer.old buffer.new
+    ensures { IsPutTo K.Sink out.old out.new buffer.old buffer.new
         (fields 32 (refusal_fields refusal.now)) result }
 {
     match refusal {
@@ -383,8 +315,9 @@ pub fn put_refusal<K: Sink>(
     out: &mut K,
     refusal: &Refusal,
 ) -> Result<(), Failed>
-    ensures { IsPutTo K.held K.faults out.old out.new buffer.old buffer.new
-        (fields 32 (refusal_text (refusal_word_of refusal.now) ∷ refusal_fields refusal.now)) result }
+    ensures { IsPutTo K.Sink out.old out.new buffer.old buffer.new
+        (fields 32 (refusal_text (refusal_word_of refusal.now)
+        ∷ refusal_fields refusal.now)) result }
 {
     match (
         Literal {

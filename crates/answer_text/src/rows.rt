@@ -76,16 +76,15 @@ pub fn read_job_pieces(
     alloc: Global,
     fields: &mut Fields<'_>,
 ) -> Result<(JobNo, PieceList), TextFault>
-    ensures { ReadsAs IsJob (λ v. (v.0.0 < 2 ^ 32) × PiecesHaveText v.1) (λ v. decimal v.0.0 ∷ piece_fields v.1) fields.old result }
+    ensures { ReadsAs IsJob (λ v. (v.0.0 < 2 ^ 32) × PiecesHaveText v.1)
+        (λ v. decimal v.0.0 ∷ piece_fields v.1) fields.old result }
 {
     let (j,) = match read_front::<(JobNo,)>(alloc, fields) {
         Ok(front) => front,
         Err(fault) => return Err(fault),
     };
-    match read_pieces(alloc, fields) {
-        Ok(pieces) => Ok((j, pieces)),
-        Err(fault) => Err(fault),
-    }
+    let pieces = read_pieces(alloc, fields)?;
+    Ok((j, pieces))
 }
 
 /// A job, a page and the pieces behind them.
@@ -93,14 +92,13 @@ pub fn read_paged_pieces(
     alloc: Global,
     fields: &mut Fields<'_>,
 ) -> Result<(JobNo, PageNo, PieceList), TextFault>
-    ensures { ReadsAs IsPaged (λ v. (v.0.0 < 2 ^ 32) × (v.1.0 < 2 ^ 32) × PiecesHaveText v.2) (λ v. decimal v.0.0 ∷ decimal v.1.0 ∷ piece_fields v.2) fields.old result }
+    ensures { ReadsAs IsPaged (λ v. (v.0.0 < 2 ^ 32) × (v.1.0 < 2 ^ 32) × PiecesHaveText v.2)
+        (λ v. decimal v.0.0 ∷ decimal v.1.0 ∷ piece_fields v.2) fields.old result }
 {
     let (j, f) = match read_front::<(JobNo, PageNo)>(alloc, fields) {
         Ok(front) => front,
         Err(fault) => return Err(fault),
     };
-    match read_pieces(alloc, fields) {
-        Ok(pieces) => Ok((j, f, pieces)),
-        Err(fault) => Err(fault),
-    }
+    let pieces = read_pieces(alloc, fields)?;
+    Ok((j, f, pieces))
 }

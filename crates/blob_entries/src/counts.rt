@@ -15,7 +15,8 @@ pub type Items = ItemList<Item>;
 pub fn share_all(shares: &mut Shares, views: &[View])
     requires { (slot : ℕ) → 0 < views_on slot views.now
         → (0 < count_at shares.old slot) × (count_at shares.old slot + length views.now ≤ 2 ^ 32) }
-    ensures counts { (slot : ℕ) → count_at shares.new slot ≡ count_at shares.old slot + views_on slot views.now }
+    ensures counts { (slot : ℕ)
+        → count_at shares.new slot ≡ count_at shares.old slot + views_on slot views.now }
     ensures items { (slot : ℕ) → item_at shares.new slot ≡ item_at shares.old slot }
 {
     for view in views {
@@ -26,7 +27,8 @@ pub fn share_all(shares: &mut Shares, views: &[View])
 // Counts a view less on a slot, and keeps its item where that was the last.
 fn release_one(shares: &mut Shares, slot: usize, freed: &mut Items) -> Result<(), NoMemory>
     requires { 0 < count_at shares.old slot }
-    ensures counts { OnOk result ((other : ℕ) → count_at shares.new other + one_at slot other ≡ count_at shares.old other) }
+    ensures counts { OnOk result ((other : ℕ)
+        → count_at shares.new other + one_at slot other ≡ count_at shares.old other) }
     ensures items { OnOk result ((other : ℕ) → 0 < count_at shares.new other
         → item_at shares.new other ≡ item_at shares.old other) }
     ensures freed { OnOk result (freed.new ≡ freed.old ++ freed_at shares.old slot 0) }

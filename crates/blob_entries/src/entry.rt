@@ -16,7 +16,8 @@ pub struct Entry {
     pub roots: u64,
     /// What it is made of; empty once it is done, or broken and swept.
     pub recipe: Recipe,
-    /// The views of its own pieces, once they were brought and until it is done, or broken and swept.
+    /// The views of its own pieces, once they were brought and until it is done, or broken and
+    /// swept.
     pub own: Option<ViewList>,
     /// Its bytes, once it is done.
     pub views: ViewList,

@@ -1,7 +1,8 @@
 ghost use Rattle.std.specs.Prelude.{◌≡◌, ◌<◌, None, length, set, IsSome};
 ghost use Rattle.std.specs.Option.{option_map};
 ghost use Rattle.blob_entries.specs.Book.{entry_at};
-ghost use Rattle.blob_entries.specs.Changes.{done_with, first_mark, with_bytes, with_mark, with_roots, with_status};
+ghost use Rattle.blob_entries.specs.Changes.{done_with, first_mark, with_bytes, with_mark};
+ghost use Rattle.blob_entries.specs.Changes.{with_roots, with_status};
 ghost use Rattle.blob_entries.specs.Leaving.{shed};
 
 use crate::entry::Entry;
@@ -102,7 +103,8 @@ fn shed(alloc: Global, entry: &mut Entry)
 // Lets an entry have no views, where it is broken.
 pub fn shed_at(alloc: Global, entries: &mut Vec<Option<Entry>>, number: usize)
     requires { number < length entries.old.items }
-    ensures { entries.new.items ≡ set entries.old.items number (option_map shed (entry_at entries.old.items number)) }
+    ensures { entries.new.items ≡ set entries.old.items number
+        (option_map shed (entry_at entries.old.items number)) }
 {
     if let Some(entry) = &mut entries[number] {
         shed(alloc, entry);

@@ -46,14 +46,16 @@ fn held(alloc: Global, entry: &Entry) -> Result<Vec<View>, NoMemory>
     Ok(out)
 }
 
-/// The views that go with what stands under a build number: all of an entry that doesn't live or is broken.
+/// The views that go with what stands under a build number: all of an entry that doesn't live or
+/// is broken.
 pub fn gone(
     alloc: Global,
     entries: &Vec<Option<Entry>>,
     number: usize,
     lives: bool,
 ) -> Result<Vec<View>, NoMemory>
-    ensures { IfOk result (λ out. out.items ≡ gone_views lives (entry_at entries.now.items number)) }
+    ensures { IfOk result
+        (λ out. out.items ≡ gone_views lives (entry_at entries.now.items number)) }
 {
     let Some(entry) = entry_at(entries.as_slice(), number) else {
         return Ok(Vec::new(alloc));

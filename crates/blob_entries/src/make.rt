@@ -1,4 +1,5 @@
-ghost use Rattle.std.specs.Prelude.{ℕ, ◌≡◌, ◌+◌, ◌-◌, ◌^◌, ◌<◌, ◌≤◌, ◌++◌, [], drop, length, min, sum_by, take, unwrap_or, IfOk, IfSome, IsSomeAnd, OnOk};
+ghost use Rattle.std.specs.Prelude.{ℕ, ◌≡◌, ◌+◌, ◌-◌, ◌^◌, ◌<◌, ◌≤◌, ◌++◌, [], drop, length, min};
+ghost use Rattle.std.specs.Prelude.{sum_by, take, unwrap_or, IfOk, IfSome, IsSomeAnd, OnOk};
 ghost use Rattle.std.specs.List.{AllByRecursion};
 ghost use Rattle.std.specs.Option.{option_copied};
 ghost use Rattle.blob_items.specs.Cells.{total};
@@ -6,7 +7,8 @@ ghost use Rattle.blob_entries.specs.Book.{entry_at};
 ghost use Rattle.blob_entries.specs.Contents.{source_at, source_views, step_len};
 ghost use Rattle.blob_entries.specs.Counts.{count_at, views_on};
 ghost use Rattle.blob_entries.specs.Holdings.{own_views, views_in};
-ghost use Rattle.blob_entries.specs.Making.{CanMake, HasRoomFor, IsCut, IsInside, IsMade, IsNextOwn, Puts, PutsCut};
+ghost use Rattle.blob_entries.specs.Making.{CanMake, HasRoomFor, IsCut, IsInside, IsMade};
+ghost use Rattle.blob_entries.specs.Making.{IsNextOwn, Puts, PutsCut};
 ghost use Rattle.blob_entries.specs.Sound.{AreOwn};
 ghost use Rattle.blob_entries.specs.Weights.{cut_most};
 
@@ -62,7 +64,8 @@ fn put_source(
     requires fits { total views.old + len ≤ 2 ^ 64 - 1 }
     requires room { (slot : ℕ) → 0 < views_on slot (source_views names.now entries.now name)
         → (0 < count_at shares.old slot)
-        × (count_at shares.old slot + min len (length (source_views names.now entries.now name)) ≤ 2 ^ 32) }
+        × (count_at shares.old slot
+        + min len (length (source_views names.now entries.now name)) ≤ 2 ^ 32) }
     ensures { OnOk result (PutsCut (source_views names.now entries.now name) off len
         views.old views.new shares.old shares.new) }
 {
@@ -140,9 +143,11 @@ pub fn make_at(
     number: usize,
     shares: &mut Shares,
 ) -> Result<ViewList, NoMemory>
-    requires { IsSomeAnd (entry_at entries.now.items number) (CanMake names.now entries.now.items shares.old) }
+    requires { IsSomeAnd (entry_at entries.now.items number)
+        (CanMake names.now entries.now.items shares.old) }
     ensures { IfOk result (λ views. IfSome (entry_at entries.now.items number) (λ entry.
-        IsMade names.now entries.now.items entry.recipe (own_views entry.own) shares.old [] [] views shares.new)) }
+        IsMade names.now entries.now.items entry.recipe
+        (own_views entry.own) shares.old [] [] views shares.new)) }
 {
     let Some(entry) = entry_at(entries.as_slice(), number) else {
         return Ok(ViewList::new(alloc));

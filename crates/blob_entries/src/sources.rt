@@ -3,7 +3,8 @@ ghost use Rattle.std.specs.List.{list_any};
 ghost use Rattle.blob_entries.specs.Book.{entry_at, is_broken_at, is_done_at};
 ghost use Rattle.blob_entries.specs.Contents.{is_own};
 ghost use Rattle.blob_entries.specs.Endings.{ending_at, is_complete, is_granted_status, misses};
-ghost use Rattle.blob_entries.specs.Sources.{each_source, some_source, source_passes, sources_of, step_source, step_sources};
+ghost use Rattle.blob_entries.specs.Sources.{each_source, some_source, source_passes, sources_of};
+ghost use Rattle.blob_entries.specs.Sources.{step_source, step_sources};
 
 use crate::entry::Entry;
 use crate::lookup::entry_at;

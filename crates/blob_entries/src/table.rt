@@ -1,4 +1,6 @@
-ghost use Rattle.std.specs.Prelude.{ℕ, ◌≡◌, ◌+◌, ◌^◌, ◌<◌, ◌≤◌, ◌++◌, [], ◌∷◌, Some, None, true, false, length, set, slice_get, slice_index, is_some, if◌then◌else◌, IfOk, IfSome, IsSome, IsSomeAnd, OnErr, OnOk};
+ghost use Rattle.std.specs.Prelude.{ℕ, ◌≡◌, ◌+◌, ◌^◌, ◌<◌, ◌≤◌, ◌++◌, [], ◌∷◌, Some, None, true};
+ghost use Rattle.std.specs.Prelude.{false, length, set, slice_get, slice_index, is_some};
+ghost use Rattle.std.specs.Prelude.{if◌then◌else◌, IfOk, IfSome, IsSome, IsSomeAnd, OnErr, OnOk};
 ghost use Rattle.blob_words.specs.declared.bounds.TheConstants.{MOST_BLOBS};
 ghost use Rattle.std.specs.Option.{option_copied, option_map_or};
 ghost use Rattle.blob_words.specs.declared.status.Status.TheVariants.{Done, PendingTransport};
@@ -128,7 +130,8 @@ impl Table {
 
     /// Says that an unfinished entry waits for bytes to be sent.
     pub fn set_transport(&mut self, number: usize)
-        requires { IsSomeAnd (entry_at self.old.entries number) (λ entry. is_pending entry.status ≡ true) }
+        requires { IsSomeAnd (entry_at self.old.entries number)
+            (λ entry. is_pending entry.status ≡ true) }
         ensures { self.new ≡ changed_at self.old number (with_status PendingTransport) }
     {
         fields::set_status(&mut self.entries, number, Status::PendingTransport);
@@ -167,13 +170,15 @@ impl Table {
 
     // Gives an entry its bytes, for which all has come.
     fn complete(&mut self, number: usize, shares: &mut Shares) -> Result<(), NoMemory>
-        requires done { ending_at self.old.names self.old.entries (entry_at self.old.entries number) ≡ Some Done }
+        requires done { ending_at self.old.names self.old.entries (entry_at self.old.entries number)
+            ≡ Some Done }
         requires counted { AreCounted self.old.entries shares.old }
         requires room { HasRoom self.old.names self.old.entries }
         ensures looks { OnOk result (LooksAt self.old self.new number (Some Done)) }
         ensures counted { OnOk result (AreCounted self.new.entries shares.new) }
         ensures room { OnOk result (HasRoom self.new.names self.new.entries) }
-        ensures items { OnOk result (SameItems self.old.entries self.new.entries shares.old shares.new) }
+        ensures items { OnOk result
+            (SameItems self.old.entries self.new.entries shares.old shares.new) }
         ensures sound { AreSound self.new.names self.new.entries }
         ensures err { OnErr result (self.new ≡ self.old) }
     {
@@ -193,7 +198,8 @@ impl Table {
         ensures looks { IfOk result (λ end. LooksAt self.old self.new number end) }
         ensures counted { OnOk result (AreCounted self.new.entries shares.new) }
         ensures room { OnOk result (HasRoom self.new.names self.new.entries) }
-        ensures items { OnOk result (SameItems self.old.entries self.new.entries shares.old shares.new) }
+        ensures items { OnOk result
+            (SameItems self.old.entries self.new.entries shares.old shares.new) }
         ensures sound { AreSound self.new.names self.new.entries }
         ensures err { OnErr result (self.new ≡ self.old) }
     {
@@ -217,7 +223,8 @@ impl Table {
         freed: &mut Items,
     ) -> Result<(), NoMemory>
         requires inside { number < length self.old.names }
-        requires unneeded { lives ≡ false → (other : ℕ) → needs self.old.names number (entry_at self.old.entries other) ≡ false }
+        requires unneeded { lives ≡ false → (other : ℕ)
+            → needs self.old.names number (entry_at self.old.entries other) ≡ false }
         requires counted { AreCounted self.old.entries shares.old }
         ensures leaves { OnOk result (Leaves self.old self.new number lives) }
         ensures lets_go { OnOk result (LetsGo (gone_views lives (entry_at self.old.entries number))
@@ -245,7 +252,8 @@ impl Table {
 
     /// How many hold what stands there.
     pub fn roots_at(&self, number: usize) -> u64
-        ensures { result ≡ option_map_or (λ entry. entry.roots) (entry_at self.now.entries number) 0 }
+        ensures { result ≡ option_map_or (λ entry. entry.roots)
+            (entry_at self.now.entries number) 0 }
     {
         match entry_at(&self.entries, number) {
             Some(entry) => entry.roots,

@@ -1,10 +1,17 @@
 ghost use Rattle.blob_model.specs.Laws.{ChangeLaws};
-ghost use Rattle.blob_model.specs.BuildLaws.{CellsAreSizes, BuildsAreOrdered, NamesDiffer, LiveIsLeast, RootedLive, LiveAreNamed, LiveIsClosed, PiecesCover, PiecesAreNumbered, SearchesAreAny, UnspawnedAreNotDead, RenderersAreFew, PiecesAreFew};
+ghost use Rattle.blob_model.specs.BuildLaws.{CellsAreSizes, BuildsAreOrdered, NamesDiffer};
+ghost use Rattle.blob_model.specs.BuildLaws.{LiveIsLeast, RootedLive, LiveAreNamed, LiveIsClosed};
+ghost use Rattle.blob_model.specs.BuildLaws.{PiecesCover, PiecesAreNumbered, SearchesAreAny};
+ghost use Rattle.blob_model.specs.BuildLaws.{UnspawnedAreNotDead, RenderersAreFew, PiecesAreFew};
 ghost use Rattle.blob_model.specs.TextLaws.{GroupsHaveText};
 ghost use Rattle.blob_model.specs.TotalLaws.{TotalsHold, NumbersAreLow};
-ghost use Rattle.blob_model.specs.PageLaws.{PagesRise, AskedWereWritten, PlacesMove, ChangesAdd, WrittenHaveBytes};
-ghost use Rattle.blob_model.specs.SettledLaws.{SettledAfterEach, RefusedSettlesNothing, MemoryFits, DiskFits};
-ghost use Rattle.blob_model.specs.LegalLaws.{FrontsAreLegal, MoreIsLegal, OneTranscript, ReachedAreGranted, ThinStaysForRoom, DiskIsAtMostTwice};
+ghost use Rattle.blob_model.specs.PageLaws.{PagesRise, AskedWereWritten, PlacesMove, ChangesAdd};
+ghost use Rattle.blob_model.specs.PageLaws.{WrittenHaveBytes};
+ghost use Rattle.blob_model.specs.SettledLaws.{SettledAfterEach, RefusedSettlesNothing, MemoryFits};
+ghost use Rattle.blob_model.specs.SettledLaws.{DiskFits};
+ghost use Rattle.blob_model.specs.LegalLaws.{FrontsAreLegal, MoreIsLegal, OneTranscript};
+ghost use Rattle.blob_model.specs.LegalLaws.{ReachedAreGranted, ThinStaysForRoom};
+ghost use Rattle.blob_model.specs.LegalLaws.{DiskIsAtMostTwice};
 
 /// After which lines and answers alone each notion changes.
 pub fn notions_change()

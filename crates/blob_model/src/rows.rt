@@ -1,14 +1,18 @@
 ghost use Rattle.std.specs.Prelude.{[], ◌∷◌};
 ghost use Rattle.blob_model.specs.Worked.{AllLegal, AllIllegal};
-ghost use Rattle.blob_model.specs.RowsReads.{short_reads, slices, cuts, one_piece_stays, viewed_twice};
+ghost use Rattle.blob_model.specs.RowsReads.{short_reads, slices, cuts, one_piece_stays};
+ghost use Rattle.blob_model.specs.RowsReads.{viewed_twice};
 ghost use Rattle.blob_model.specs.WrongReads.{wrong_reads};
-ghost use Rattle.blob_model.specs.RowsTransit.{unfinished_source, builder_dies, nobody_holds, out_of_order};
+ghost use Rattle.blob_model.specs.RowsTransit.{unfinished_source, builder_dies, nobody_holds};
+ghost use Rattle.blob_model.specs.RowsTransit.{out_of_order};
 ghost use Rattle.blob_model.specs.WrongTransit.{wrong_transit};
 ghost use Rattle.blob_model.specs.RowsQuota.{sent_again, head_first};
 ghost use Rattle.blob_model.specs.WrongQuota.{wrong_quota};
-ghost use Rattle.blob_model.specs.RowsPaging.{page_job, page_unread, page_failed, page_left, job_lost};
+ghost use Rattle.blob_model.specs.RowsPaging.{page_job, page_unread, page_failed, page_left};
+ghost use Rattle.blob_model.specs.RowsPaging.{job_lost};
 ghost use Rattle.blob_model.specs.WrongPaging.{wrong_paging};
-ghost use Rattle.blob_model.specs.RowsStored.{past_memory, stored_left, disk_full, memory_full, store_failed, long_page, long_page_failed};
+ghost use Rattle.blob_model.specs.RowsStored.{past_memory, stored_left, disk_full, memory_full};
+ghost use Rattle.blob_model.specs.RowsStored.{store_failed, long_page, long_page_failed};
 ghost use Rattle.blob_model.specs.WrongStored.{wrong_stored};
 ghost use Rattle.blob_model.specs.RowsSources.{file_changes, blob_urls, data_handle};
 ghost use Rattle.blob_model.specs.WrongSources.{wrong_sources};
@@ -20,7 +24,8 @@ ghost use Rattle.blob_model.specs.RowsChains.{chain_dropped, chain_done};
 ghost use Rattle.blob_model.specs.WrongChains.{wrong_chains};
 ghost use Rattle.blob_model.specs.RowsVersions.{waiting_lost, waiting_failed, waiting_on};
 ghost use Rattle.blob_model.specs.WrongVersions.{wrong_versions};
-ghost use Rattle.blob_model.specs.RowsCompaction.{moved, move_unread, move_failed, no_room, nothing_left};
+ghost use Rattle.blob_model.specs.RowsCompaction.{moved, move_unread, move_failed, no_room};
+ghost use Rattle.blob_model.specs.RowsCompaction.{nothing_left};
 ghost use Rattle.blob_model.specs.WrongCompaction.{wrong_compaction};
 
 /// Sessions in which blobs are built, sliced and read: their transcripts are legal.
@@ -65,7 +70,8 @@ pub fn paging_wrong_are_refused()
 
 /// Sessions in which blobs go to page files as they come: their transcripts are legal.
 pub fn stored_are_legal()
-    ensures { AllLegal (past_memory ∷ stored_left ∷ disk_full ∷ memory_full ∷ store_failed ∷ long_page ∷ long_page_failed ∷ []) }
+    ensures { AllLegal (past_memory ∷ stored_left ∷ disk_full ∷ memory_full ∷ store_failed
+        ∷ long_page ∷ long_page_failed ∷ []) }
 {}
 
 /// And wrong transcripts of them are not.

@@ -26,7 +26,7 @@ use Rattle.blob_entries.specs.Statuses.{is_broken, is_done, is_pending}
 use Rattle.blob_registry.specs.Passes.{Finishes, Notes, ending_list, endings, passed}
 use Rattle.blob_items.specs.declared.view.View.{View}
 use Rattle.blob_items.specs.Cells.{cells, view_cells}
-use Rattle.blob_registry.specs.declared.ending.Ending.{Ending}
+use Rattle.blob_registry.specs.declared.ended_blob.EndedBlob.{EndedBlob}
 
 abbrev Entries : Type 0
 Entries = List (Option Entry)
@@ -375,7 +375,7 @@ ends_before names entries one other number (Some entry) after sound same ends =
     by false is so = rw (none false is refl) (subst (λ (end : Option Status). EndsAs names one entry end after) (none false is refl) so)
 
 -- how far the pass is
-pub record Passes (old now : Book) (bound : ℕ) (list : List Ending) : Type 0 where
+pub record Passes (old now : Book) (bound : ℕ) (list : List EndedBlob) : Type 0 where
   pub within : bound ≤ length now.entries
   pub names : now.names ≡ old.names
   pub listed : list ++ endings now.names (take bound now.entries) (drop bound now.entries) ≡ endings old.names [] old.entries
@@ -394,7 +394,7 @@ passes_none old = record {
   front = λ k above. refl;
 }
 
-pub passes_more : (old now later : Book) (bound : ℕ) (list : List Ending) (name : ℕ) (status : Status) → AreSound old.names old.entries
+pub passes_more : (old now later : Book) (bound : ℕ) (list : List EndedBlob) (name : ℕ) (status : Status) → AreSound old.names old.entries
     → AreSound now.names now.entries → Passes old now bound list → (next : EndsNext now later name status)
     → Passes old later (next.number + 1) (list ++ ending_list name (Some status))
 passes_more old now later bound list name status were are passes next = record {
@@ -496,7 +496,7 @@ passes_more old now later bound list name status were are passes next = record {
             rw apart refl
 
 -- one that does not end
-pub passes_on : (old now : Book) (number : ℕ) (list : List Ending) → AreSound now.names now.entries → Passes old now number list
+pub passes_on : (old now : Book) (number : ℕ) (list : List EndedBlob) → AreSound now.names now.entries → Passes old now number list
     → number < length now.entries → ending_at now.names now.entries (entry_at now.entries number) ≡ None → Passes old now (number + 1) list
 passes_on old now number list are passes inside none = record {
   within = omega arith;
@@ -515,7 +515,7 @@ passes_on old now number list are passes inside none = record {
     stays (Some entry) after is nothing = let none_here : ending old.names now.entries entry ≡ None = subst
         (λ (h : Option Entry). ending_at old.names now.entries h ≡ None) is nothing in rw none_here is
 
-pub passes_end : (old now : Book) (bound : ℕ) (list : List Ending) → AreSound now.names now.entries → Passes old now bound list → NoneEnds now
+pub passes_end : (old now : Book) (bound : ℕ) (list : List EndedBlob) → AreSound now.names now.entries → Passes old now bound list → NoneEnds now
     → list ≡ endings old.names [] old.entries
 passes_end old now bound list are passes none = sym (append-nil list) ∙ ap (λ rest. list ++ rest) (sym rest_none) ∙ passes.listed
   where
@@ -541,7 +541,7 @@ looked_none now later number looks = book_same later now looks.names
     by (Some entry) none ends = subst (λ (end : Option Status). EndsAs now.names now.entries entry end (entry_at later.entries number)) (sym none) ends
 
 -- the pass, one number on
-pub passes_notes : (old now later : Book) (number : ℕ) (ended : Bool) (list next : List Ending) → AreSound old.names old.entries
+pub passes_notes : (old now later : Book) (number : ℕ) (ended : Bool) (list next : List EndedBlob) → AreSound old.names old.entries
     → AreSound now.names now.entries → Passes old now number list → number < length now.entries → Notes now later number ended list next
     → Passes old later (number + 1) next
 passes_notes old now later number ended list next were are passes inside notes = by notes.result notes.looks notes.noted
@@ -553,7 +553,7 @@ passes_notes old now later number ended list next were are passes inside notes =
         (record { number = number; least = passes.nothing; looks = looks; named = refl }))
 
 -- the pass is done
-pub passes_all : (old now : Book) (number : ℕ) (list : List Ending) → AreSound now.names now.entries → Passes old now number list
+pub passes_all : (old now : Book) (number : ℕ) (list : List EndedBlob) → AreSound now.names now.entries → Passes old now number list
     → length now.entries ≤ number → length now.entries ≡ length old.entries → Finishes old now list
 passes_all old now number list are passes behind size = record {
   names = passes.names;
@@ -577,7 +577,7 @@ passes_all old now number list are passes behind size = record {
         rw gone (past k not_below)
 
 -- the pass goes over numbers that don't end
-passes_jump : (old now : Book) (count bound : ℕ) (list : List Ending) → AreSound now.names now.entries → Passes old now bound list
+passes_jump : (old now : Book) (count bound : ℕ) (list : List EndedBlob) → AreSound now.names now.entries → Passes old now bound list
     → bound + count ≤ length now.entries
     → ((k : ℕ) → bound ≤ k → k < bound + count → ending_at now.names now.entries (entry_at now.entries k) ≡ None) → Passes old now (bound + count) list
 passes_jump old now zero bound list are passes within none = let same : bound + zero ≡ bound = omega arith in rw same passes
@@ -587,7 +587,7 @@ passes_jump old now (suc count) bound list are passes within none =
     (passes_jump old now count (bound + 1) list are (passes_on old now bound list are passes (omega arith) (none bound (omega arith) (omega arith)))
     (omega arith) (λ k above below. none k (omega arith) (omega arith)))
 
-pub passes_to : (old now : Book) (bound number : ℕ) (list : List Ending) → AreSound now.names now.entries → Passes old now bound list → bound ≤ number
+pub passes_to : (old now : Book) (bound number : ℕ) (list : List EndedBlob) → AreSound now.names now.entries → Passes old now bound list → bound ≤ number
     → number ≤ length now.entries
     → ((k : ℕ) → k < number → ending_at now.names now.entries (entry_at now.entries k) ≡ None) → Passes old now number list
 passes_to old now bound number list are passes le within none =
@@ -596,7 +596,7 @@ passes_to old now bound number list are passes le within none =
     (passes_jump old now (number - bound) bound list are passes (omega (arith, jump)) (λ k above below. none k (omega (arith, jump, below))))
 
 -- nobody ends any more
-pub look_end : (old now : Book) (bound count : ℕ) (list : List Ending) → AreSound old.names old.entries → AreSound now.names now.entries
+pub look_end : (old now : Book) (bound count : ℕ) (list : List EndedBlob) → AreSound old.names old.entries → AreSound now.names now.entries
     → Passes old now bound list → count ≡ length now.names
     → ((k : ℕ) → k < count → ending_at now.names now.entries (entry_at now.entries k) ≡ None) → Finishes old now list
 look_end old now bound count list were are passes size none =

@@ -8,7 +8,7 @@ use Rattle.blob_registry.specs.Lists.{AreEntered, PutOn, Strikes, list_at, turne
 use Rattle.blob_registry.specs.Numbers.{AreBelow, IsRising}
 use Rattle.blob_registry.specs.Passes.{Notes}
 use Rattle.blob_registry.specs.Sweeps.{Goes}
-use Rattle.blob_registry.specs.declared.ending.Ending.{Ending}
+use Rattle.blob_registry.specs.declared.ended_blob.EndedBlob.{EndedBlob}
 use Rattle.blob_registry.specs.declared.work.Work.{Work}
 use Rattle.blob_words.specs.declared.bounds.TheConstants.{MOST_BLOBS}
 use Rattle.item_shares.specs.declared.item.Item.{Item}
@@ -64,7 +64,7 @@ pub record Enters (before after : Work) (number : ℕ) (sources : List ℕ) : Ty
   pub entered : AreEntered before.dependents.items after.dependents.items number sources
 
 -- an entry was looked at, its ending noted, and its number taken off the list
-pub record Looked (before after : Book) (work later : Work) (number : ℕ) (list next : List Ending) : Type 0 where
+pub record Looked (before after : Book) (work later : Work) (number : ℕ) (list next : List EndedBlob) : Type 0 where
   pub ended : Bool
   pub notes : Notes before after number ended list next
   pub below : (other : ℕ) → other ≤ number → (other ≢ number → slice_index work.looks other ≢ 0) → slice_index later.looks other ≢ 0

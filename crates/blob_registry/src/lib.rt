@@ -1,7 +1,7 @@
 //! The blobs that live: which stand, how they end, which go, and who needs whom.
 #![tactic(auto)]
 
-pub mod ending;
+pub mod ended_blob;
 pub mod fault;
 mod lists;
 mod look;
@@ -11,7 +11,7 @@ pub mod swept;
 mod weigh;
 mod work;
 
-pub use ending::{Ending, Endings};
+pub use ended_blob::{EndedBlob, Endings};
 pub use fault::RegisterFault;
 pub use registry::Registry;
 pub use swept::{Names, Swept};

@@ -5,7 +5,7 @@ ghost use Rattle.blob_entries.specs.Weights.{HasRoom};
 ghost use Rattle.blob_registry.specs.Passes.{ending_list, Finishes};
 ghost use Rattle.blob_registry.specs.Work.{AreKept, Looked};
 
-use crate::ending::{Ending, Endings};
+use crate::ended_blob::{EndedBlob, Endings};
 use crate::work::Work;
 use blob_entries::Table;
 use blob_words::{BlobName, NoMemory, Status};
@@ -16,7 +16,7 @@ fn note(endings: &mut Endings, name: BlobName, end: Option<Status>) -> Result<()
     ensures { OnOk result (endings.new ≡ endings.old ++ ending_list name end) }
 {
     match end {
-        Some(status) => endings.push(Ending { name, status }),
+        Some(status) => endings.push(EndedBlob { name, status }),
         None => Ok(()),
     }
 }

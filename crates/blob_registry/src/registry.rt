@@ -1,9 +1,13 @@
-ghost use Rattle.std.specs.Prelude.{ℕ, ◌≡◌, ◌≢◌, ◌+◌, ◌-◌, ◌^◌, ◌<◌, ◌++◌, [], ◌∷◌, None, false, true, length, slice_get, is_some, IfErr, IfOk, IsSomeAnd, OnErr, OnOk};
+ghost use Rattle.std.specs.Prelude.{ℕ, ◌≡◌, ◌≢◌, ◌+◌, ◌-◌, ◌^◌, ◌<◌, ◌++◌, [], ◌∷◌, None, false};
+ghost use Rattle.std.specs.Prelude.{true, length, slice_get, is_some, IfErr, IfOk, IsSomeAnd};
+ghost use Rattle.std.specs.Prelude.{OnErr, OnOk};
 ghost use Rattle.blob_words.specs.declared.bounds.TheConstants.{MOST_BLOBS};
 ghost use Rattle.std.specs.Option.{option_copied, option_map};
-ghost use Rattle.blob_words.specs.declared.status.Status.TheVariants.{PendingQuota, PendingTransport};
+ghost use Rattle.blob_words.specs.declared.status.Status.TheVariants.{PendingQuota};
+ghost use Rattle.blob_words.specs.declared.status.Status.TheVariants.{PendingTransport};
 ghost use Rattle.blob_entries.specs.Book.{book_of, changed, entry_at, entry_of, views_of};
-ghost use Rattle.blob_entries.specs.Changes.{held_less, held_more, with_bytes, with_mark, with_status};
+ghost use Rattle.blob_entries.specs.Changes.{held_less, held_more, with_bytes, with_mark};
+ghost use Rattle.blob_entries.specs.Changes.{with_status};
 ghost use Rattle.blob_entries.specs.Counted.{AreCounted, SameItems};
 ghost use Rattle.blob_entries.specs.Names.{number_of};
 ghost use Rattle.blob_entries.specs.Sound.{AreOwn, AreSound, IsSound};
@@ -12,12 +16,13 @@ ghost use Rattle.blob_entries.specs.Statuses.{is_broken, is_pending};
 ghost use Rattle.blob_entries.specs.Weights.{HasRoom};
 ghost use Rattle.blob_registry.specs.Dependents.{dependents_of};
 ghost use Rattle.blob_registry.specs.Passes.{Finishes};
-ghost use Rattle.blob_registry.specs.Registering.{new_entry, pushed, recipe_of, CanBring, CanRegister, IsRegisterCause};
+ghost use Rattle.blob_registry.specs.Registering.{new_entry, pushed, recipe_of, CanBring};
+ghost use Rattle.blob_registry.specs.Registering.{CanRegister, IsRegisterCause};
 ghost use Rattle.blob_entries.specs.Standing.{name_under, standing};
 ghost use Rattle.blob_registry.specs.Sweeps.{Sweeping};
 ghost use Rattle.blob_registry.specs.Work.{AreKept};
 
-use crate::ending::Endings;
+use crate::ended_blob::Endings;
 use crate::fault::RegisterFault;
 use crate::look::look_all;
 use crate::swept::{Names, Swept};
@@ -170,7 +175,8 @@ impl Registry {
 
     /// The blob breaks with `why` in the next pass; of two marks a failed write goes before.
     pub fn mark(&mut self, name: BlobName, why: Status)
-        requires pending { IsSomeAnd (entry_of self.old name) (λ entry. is_pending entry.status ≡ true) }
+        requires pending { IsSomeAnd (entry_of self.old name)
+            (λ entry. is_pending entry.status ≡ true) }
         requires breaking { is_broken why ≡ true }
         ensures { self.new ≡ changed self.old name (with_mark why) }
     {
@@ -205,8 +211,8 @@ impl Registry {
         }
     }
 
-    /// Ends each unfinished blob that ends now, in order of build, each after those before it. After
-    /// want of memory registry and shares are only to be dropped.
+    /// Ends each unfinished blob that ends now, in order of build, each after those before it.
+    /// After want of memory registry and shares are only to be dropped.
     pub fn finish_pass(&mut self, shares: &mut Shares) -> Result<Endings, NoMemory>
         requires counted { AreCounted self.old.entries shares.old }
         requires room { HasRoom self.old.names self.old.entries }

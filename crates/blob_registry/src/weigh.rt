@@ -27,7 +27,8 @@ fn lives_at(table: &Table, work: &Work, number: usize) -> bool
 fn note_gone(table: &Table, number: usize, lives: bool, names: &mut Names) -> Result<(), NoMemory>
     requires { number < length table.now.names }
     ensures { OnOk result (names.new ≡ names.old
-        ++ gone_name lives (slice_index table.now.names number) (entry_at table.now.entries number)) }
+        ++ gone_name lives (slice_index table.now.names number)
+        (entry_at table.now.entries number)) }
 {
     if lives {
         return Ok(());
@@ -81,7 +82,8 @@ pub fn weigh_all(
     requires no_items { freed.old ≡ [] }
     requires kept { AreKept table.old work.old }
     requires counted { AreCounted table.old.entries shares.old }
-    ensures swept { OnOk result (Sweeping table.old table.new names.new shares.old shares.new freed.new) }
+    ensures swept { OnOk result
+        (Sweeping table.old table.new names.new shares.old shares.new freed.new) }
     ensures kept { AreKept table.new work.new }
     ensures counted { OnOk result (AreCounted table.new.entries shares.new) }
 {

@@ -1,4 +1,5 @@
-ghost use Rattle.std.specs.Prelude.{ℕ, ◌≡◌, ◌<◌, ◌≤◌, ◌++◌, [], true, false, length, set, slice_index, IfOk, OnErr, OnOk};
+ghost use Rattle.std.specs.Prelude.{ℕ, ◌≡◌, ◌<◌, ◌≤◌, ◌++◌, [], true, false, length, set};
+ghost use Rattle.std.specs.Prelude.{slice_index, IfOk, OnErr, OnOk};
 ghost use Rattle.blob_words.specs.declared.bounds.TheConstants.{MOST_BLOBS};
 ghost use Rattle.blob_registry.specs.Lists.{list_at, turned, LackNumber, Strikes};
 ghost use Rattle.blob_registry.specs.Numbers.{AreBelow, IsRising};
@@ -27,7 +28,8 @@ pub struct Work {
 // A list of nothing.
 fn none_listed(alloc: Global) -> Result<FirstFit, NoMemory>
     ensures sized { IfOk result (λ list. length list ≡ MOST_BLOBS) }
-    ensures none { IfOk result (λ list. (number : ℕ) → number < MOST_BLOBS → slice_index list number ≡ 1) }
+    ensures none { IfOk result
+        (λ list. (number : ℕ) → number < MOST_BLOBS → slice_index list number ≡ 1) }
 {
     let mut list = FirstFit::new(alloc);
     for _number in 0..MOST_BLOBS {
@@ -81,7 +83,8 @@ impl Work {
         requires within { number < MOST_BLOBS }
         requires listed { number < length self.old.dependents.items }
         requires sources { AreBelow number sources.now }
-        ensures plain { ended ≡ false → self.new ≡ record self.old { looks = set self.old.looks number 1 } }
+        ensures plain { ended ≡ false
+            → self.new ≡ record self.old { looks = set self.old.looks number 1 } }
         ensures ended { ended ≡ true → Ended self.old self.new number sources.now }
     {
         self.looks.set(number, 1);
@@ -102,7 +105,8 @@ impl Work {
         requires listed { number < length self.old.dependents.items }
         requires free { lives ≡ false → list_at self.old.dependents.items number ≡ [] }
         requires sources { AreBelow number sources.now }
-        ensures plain { lives ≡ true → self.new ≡ record self.old { weighs = set self.old.weighs (turned number) 1 } }
+        ensures plain { lives ≡ true
+            → self.new ≡ record self.old { weighs = set self.old.weighs (turned number) 1 } }
         ensures gone { lives ≡ false → Gone self.old self.new number sources.now }
     {
         self.weighs.set(turned(number), 1);
@@ -151,7 +155,8 @@ impl Work {
         requires sources { AreBelow number sources.now }
         ensures looks { self.new.looks ≡ self.old.looks }
         ensures weighs { self.new.weighs ≡ self.old.weighs }
-        ensures strikes { Strikes self.old.dependents.items self.new.dependents.items number sources.now }
+        ensures strikes { Strikes self.old.dependents.items self.new.dependents.items number
+            sources.now }
     {
         strike_all(&mut self.dependents, sources, number as u64);
     }

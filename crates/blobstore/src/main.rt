@@ -31,7 +31,7 @@ fn words(rt: &HostRuntime) -> io::Result<Vec<String>> {
     Ok(words)
 }
 
-fn replay<K: Sink>(rt: &HostRuntime, out: &mut K) -> u8 {
+fn run_session<K: Sink>(rt: &HostRuntime, out: &mut K) -> u8 {
     let words = match words(rt) {
         Ok(words) => words,
         Err(error) => {
@@ -63,7 +63,7 @@ fn tell<K: Sink>(rt: &HostRuntime, status: u8, out: &LastBytes<K>) -> io::Result
 
 fn main(rt: HostRuntime) -> ExitCode {
     let mut out = LastBytes::new(WriteSink::new(rt.stdout()));
-    let status = replay(&rt, &mut out);
+    let status = run_session(&rt, &mut out);
     // There is nowhere left to say that this can't be written.
     let _told = tell(&rt, status, &out);
     ExitCode::from(status)

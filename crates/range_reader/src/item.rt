@@ -1,5 +1,6 @@
 //! A range of bytes of one item, from where they are.
-ghost use Rattle.std.specs.Prelude.{◌≡◌, ◌+◌, ◌-◌, ◌^◌, ◌<◌, ◌≤◌, None, [], drop, length, min, take, unwrap_or, IfErr, OnOk};
+ghost use Rattle.std.specs.Prelude.{◌≡◌, ◌+◌, ◌-◌, ◌^◌, ◌<◌, ◌≤◌, None, [], drop, length, min};
+ghost use Rattle.std.specs.Prelude.{take, unwrap_or, IfErr, OnOk};
 ghost use Rattle.std.specs.Result.{is_ok};
 ghost use Rattle.file_table.specs.Files.{content_of, is_readable, state_of};
 ghost use Rattle.data_handles.specs.Boxes.{of_table};
@@ -46,7 +47,8 @@ fn read_file(
     ensures cause { is_ok result
         ≡ is_readable stamp (off + place + length out.old) (state_of name.now files.now) }
     ensures bytes { OnOk result (out.new
-        ≡ take (length out.old) (drop (off + place) (unwrap_or (content_of name.now files.now) []))) }
+        ≡ take (length out.old) (drop (off + place)
+        (unwrap_or (content_of name.now files.now) []))) }
 {
     match off.checked_add(place) {
         Some(start) => files.read_range(name, stamp, start, out),

@@ -97,9 +97,11 @@ impl Reader {
         ensures closed { D.writing disk.new ≡ None }
         ensures same { D.changes disk.new ≡ D.changes disk.old }
         ensures ends { StepEnds shares.now views.now (length out.old) self.old self.new
-            (asked files.now (D.changes disk.old) (of_table ⟦<Boxed as DataHandle>⟧.seen handles.old)
+            (asked files.now (D.changes disk.old)
+            (of_table ⟦<Boxed as DataHandle>⟧.seen handles.old)
             (D.faults disk.old) (D.meter disk.old))
-            (asked files.now (D.changes disk.new) (of_table ⟦<Boxed as DataHandle>⟧.seen handles.new)
+            (asked files.now (D.changes disk.new)
+            (of_table ⟦<Boxed as DataHandle>⟧.seen handles.new)
             (D.faults disk.new) (D.meter disk.new)) out.new result }
         ensures later { D.faults disk.old ≤ D.faults disk.new }
         ensures meter { min (D.meter disk.old) (2 ^ 64 - 1) ≤ D.meter disk.new }

@@ -1,5 +1,6 @@
 //! Bytes of views, one view after the other.
-ghost use Rattle.std.specs.Prelude.{◌≡◌, ◌+◌, ◌-◌, ◌^◌, ◌<◌, ◌≤◌, None, drop, length, min, take, IfErr, IsSomeAnd, OnOk};
+ghost use Rattle.std.specs.Prelude.{◌≡◌, ◌+◌, ◌-◌, ◌^◌, ◌<◌, ◌≤◌, None, drop, length, min, take};
+ghost use Rattle.std.specs.Prelude.{IfErr, IsSomeAnd, OnOk};
 ghost use Rattle.std.specs.List.{AllByRecursion};
 ghost use Rattle.item_shares.specs.Shares.{item_at};
 ghost use Rattle.blob_items.specs.Cells.{cells, total};
@@ -116,7 +117,8 @@ pub fn read_views<D: PageDisk>(
         (asked files.now (D.changes disk.new) (of_table ⟦<Boxed as DataHandle>⟧.seen handles.new)
         (D.faults disk.new) (D.meter disk.new))
         (total (take first views.now) + skipped)
-        (take (length out.old) (drop skipped (cells (drop first views.now)))) stop.view stop.fault) }
+        (take (length out.old) (drop skipped (cells (drop first views.now)))) stop.view
+        stop.fault) }
     ensures later { D.faults disk.old ≤ D.faults disk.new }
     ensures meter { min (D.meter disk.old) (2 ^ 64 - 1) ≤ D.meter disk.new }
 {

@@ -17,7 +17,7 @@ use Rattle.blob_model.specs.Session.{Session}
 use Rattle.blob_model.specs.Settle.{drops, endings}
 use Rattle.blob_registry.specs.Passes as passes
 use Rattle.blob_registry.specs.Sweeps.{dropped, swept}
-use Rattle.blob_registry.specs.declared.ending.Ending.{Ending}
+use Rattle.blob_registry.specs.declared.ended_blob.EndedBlob.{EndedBlob}
 use Rattle.registry_laws.specs.Agree.{AgreesInMarks, AgreesWith}
 
 -- a history tells how the entries of a registry stand: its names differ, the entries are sound, and they agree
@@ -35,7 +35,7 @@ abbrev pub LiveAgree : Type 0
 LiveAgree = (s : Session) (h : History) (book : Book) → Describes s h book → SweepsAs s h book
 
 -- the answer that tells an ending
-abbrev pub ending_answer : Ending → Answer
+abbrev pub ending_answer : EndedBlob → Answer
 ending_answer end = if is_done end.status then answers.Done end.name else answers.Broken end.name end.status
 
 -- where the marks agree too, the endings of a pass are those that are owed, in their order
@@ -53,7 +53,7 @@ SweepAgrees = (s : Session) (h : History) (book : Book) → Describes s h book �
 
 -- where the marks agreed, what a pass made of the entries agrees with the history behind the endings
 abbrev pub PassAgrees : Type 0
-PassAgrees = (s : Session) (h : History) (before after : Book) (list : List Ending) → Describes s h before → AgreesInMarks s h before
+PassAgrees = (s : Session) (h : History) (before after : Book) (list : List EndedBlob) → Describes s h before → AgreesInMarks s h before
     → passes.Finishes before after list
     → AgreesWith s.limits.page (said_all h (endings s h)) after
 

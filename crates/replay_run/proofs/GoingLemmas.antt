@@ -9,8 +9,8 @@ use Rattle.session_script.specs.declared.event.Event.{Event}
 use Rattle.session_script.specs.Line.{line_of}
 use Rattle.blob_words.specs.declared.limits.Limits.{Limits}
 use Rattle.blob_source.specs.Faults.{Rose}
-use Rattle.replay_run.specs.declared.ending.Ending.{Ending}
-use Rattle.replay_run.specs.declared.ending.Ending.TheVariants.{Finished, Refused, NoMemory, SourceFailed, SinkFailed, Stopped}
+use Rattle.replay_run.specs.declared.session_end.SessionEnd.{SessionEnd}
+use Rattle.replay_run.specs.declared.session_end.SessionEnd.TheVariants.{Finished, Refused, NoMemory, SourceFailed, SinkFailed, Stopped}
 use Rattle.replay_run.specs.declared.turn.Turn.TheVariants.{Over}
 use Rattle.answer_text.specs.declared.group.Group.{Group}
 use Rattle.replay_run.specs.declared.store.Store.{Store}
@@ -97,7 +97,7 @@ module _ (l : Limits) (unread0 unread unread' held0 held held' : Option (List �
 
   module _ (source source' sink sink' : ℕ) where
     -- no group was taken
-    stopped : (ending : Ending) → HasCause ending source source' sink sink' → IsLeft ending (opening l ∷ going.groups) unread → (last : List ℕ) → Appends held held' last → IsLast ending (opening l ∷ going.groups) unread last
+    stopped : (ending : SessionEnd) → HasCause ending source source' sink sink' → IsLeft ending (opening l ∷ going.groups) unread → (last : List ℕ) → Appends held held' last → IsLast ending (opening l ∷ going.groups) unread last
         → number ≤ 2 ^ 20 + 1 → AreTaken l unread0 held0 held' source source' sink sink' ending
     stopped ending cause left last appended is_last few = record {
       groups = going.groups;
@@ -115,7 +115,7 @@ module _ (l : Limits) (unread0 unread unread' held0 held held' : Option (List �
 
     ended : (Next : Group → Type 0) (IsOut : Reason → List ℕ → Type 0) → ((group : Group) → Next group → IsNext (opening l ∷ going.groups) group)
         → ((reason : Reason) (bytes : List ℕ) → IsOut reason bytes → IsRefused (opening l ∷ going.groups) reason bytes) → number ≤ 2 ^ 20 + 1
-        → (ending : Ending) → HasCause ending source source' sink sink' → EndsAt Next IsOut number unread held held' ending → AreTaken l unread0 held0 held' source source' sink sink' ending
+        → (ending : SessionEnd) → HasCause ending source source' sink sink' → EndsAt Next IsOut number unread held held' ending → AreTaken l unread0 held0 held' source source' sink sink' ending
     ended Next IsOut next out few Finished cause ends = absurd ends
     ended Next IsOut next out few (Refused n reason) cause ends =
         stopped (Refused n reason) cause (going.rests.open_still, ends.0 ∙ omega (arith, going.count), if_some_by unread ends.1 (out reason)) (refusal_line n reason)
@@ -134,7 +134,7 @@ module _ (l : Limits) (unread0 unread unread' held0 held held' : Option (List �
     out_behind few reason bytes out = inr (omega (arith, going.count), out)
 
     -- a line ended the session
-    pub going-over : number ≤ 2 ^ 20 → (ending : Ending) → HasCause ending source source' sink sink' → Turned l so_far number unread unread' held held' s' (Over ending)
+    pub going-over : number ≤ 2 ^ 20 → (ending : SessionEnd) → HasCause ending source source' sink sink' → Turned l so_far number unread unread' held held' s' (Over ending)
         → AreTaken l unread0 held0 held' source source' sink sink' ending
     going-over few Finished cause turned =
         let taken = turned.0 in
@@ -159,7 +159,7 @@ module _ (l : Limits) (unread0 unread unread' held0 held held' : Option (List �
     going-over few Stopped cause turned = ended (IsLegalGroup l so_far) (IsOutAt l so_far) (next_legal few) (out_behind few) (omega arith) Stopped cause turned
 
     -- the session ended behind the greatest number of lines
-    pub going-past : number ≡ 2 ^ 20 + 1 → (ending : Ending) → HasCause ending source source' sink sink' → EndsAt IsNone IsOutPast (2 ^ 20 + 1) unread held held' ending
+    pub going-past : number ≡ 2 ^ 20 + 1 → (ending : SessionEnd) → HasCause ending source source' sink sink' → EndsAt IsNone IsOutPast (2 ^ 20 + 1) unread held held' ending
         → AreTaken l unread0 held0 held' source source' sink sink' ending
     going-past last_number ending cause ends =
         ended IsNone IsOutPast (λ group none. absurd none) (λ reason bytes out. inl (omega (arith, going.count, last_number), out.0, out.1)) (omega (arith, last_number)) ending cause
@@ -169,7 +169,7 @@ module _ (l : Limits) (unread0 unread unread' held0 held held' : Option (List �
 pub Rose-earlier : (a b c : ℕ) → a ≤ b → Rose b c → Rose a c
 Rose-earlier a b c later rose = ⊎_elim (λ (more : b < c). inl (omega arith)) (λ (most : c ≡ 2 ^ 64 - 1). inr most) rose
 
-pub HasCause-earlier : (ending : Ending) (a b c d e f : ℕ) → a ≤ b → d ≤ e → HasCause ending b c e f → HasCause ending a c d f
+pub HasCause-earlier : (ending : SessionEnd) (a b c d e f : ℕ) → a ≤ b → d ≤ e → HasCause ending b c e f → HasCause ending a c d f
 HasCause-earlier Finished a b c d e f source sink cause = tt
 HasCause-earlier (Refused n reason) a b c d e f source sink cause = tt
 HasCause-earlier NoMemory a b c d e f source sink cause = tt
@@ -178,6 +178,6 @@ HasCause-earlier SinkFailed a b c d e f source sink cause = Rose-earlier d e f s
 HasCause-earlier Stopped a b c d e f source sink cause = tt
 
 -- a fault at the end of a step is one since before it
-pub caused-late : {A : Type 0} (result : Result A Ending) (a b d e : ℕ) → a ≤ b → IfErr result (λ (ending : Ending). HasCause ending b b d e) → IfErr result (λ (ending : Ending). HasCause ending a b d e)
+pub caused-late : {A : Type 0} (result : Result A SessionEnd) (a b d e : ℕ) → a ≤ b → IfErr result (λ (ending : SessionEnd). HasCause ending b b d e) → IfErr result (λ (ending : SessionEnd). HasCause ending a b d e)
 caused-late (Ok x) a b d e later is = tt
 caused-late (Err ending) a b d e later is = HasCause-earlier ending a b b d d e later (omega arith) is

@@ -6,10 +6,10 @@ use Rattle.session_script.specs.declared.event.Event.TheVariants as events
 use Rattle.session_script.specs.Line.{line_of}
 use Rattle.blob_words.specs.declared.limits.Limits.{Limits}
 use Rattle.blob_source.specs.Faults.{Rose}
-use Rattle.replay_run.specs.declared.ending.Ending.{Ending}
-use Rattle.replay_run.specs.declared.ending.Ending.TheVariants.{Finished, Refused, NoMemory, SourceFailed, SinkFailed, Stopped}
+use Rattle.replay_run.specs.declared.session_end.SessionEnd.{SessionEnd}
+use Rattle.replay_run.specs.declared.session_end.SessionEnd.TheVariants.{Finished, Refused, NoMemory, SourceFailed, SinkFailed, Stopped}
 use Rattle.answer_text.specs.declared.group.Group.{Group}
-use Rattle.replay_run.specs.Ending.{code_of}
+use Rattle.replay_run.specs.SessionEnd.{code_of}
 use Rattle.replay_run.specs.Legal.{opening}
 use Rattle.answer_text.specs.Text.{group_text, groups_text}
 use Rattle.replay_run.specs.declared.reason.Reason.{Reason}
@@ -34,7 +34,7 @@ out_first reason bytes out = inr (omega arith, out)
 
 module _ (told held held' : Option (List ℕ)) (source source' sink sink' : ℕ) where
   -- a session of which no line is in the transcript
-  nothing : (ending : Ending) → HasCause ending source source' sink sink' → IsLeft ending [] told → (last : List ℕ) → Appends held held' last → IsLast ending [] told last
+  nothing : (ending : SessionEnd) → HasCause ending source source' sink sink' → IsLeft ending [] told → (last : List ℕ) → Appends held held' last → IsLast ending [] told last
       → IsReplay told held held' source source' sink sink' (code_of ending)
   nothing ending cause left last written is_last = record {
     transcript = [];
@@ -53,7 +53,7 @@ module _ (told held held' : Option (List ℕ)) (source source' sink sink' : ℕ)
   }
 
   -- the first line ended the session
-  pub ended-first : (ending : Ending) → HasCause ending source source' sink sink' → EndsAt IsOpening IsOutFirst 1 told held held' ending → IsReplay told held held' source source' sink sink' (code_of ending)
+  pub ended-first : (ending : SessionEnd) → HasCause ending source source' sink sink' → EndsAt IsOpening IsOutFirst 1 told held held' ending → IsReplay told held held' source source' sink sink' (code_of ending)
   ended-first Finished cause ends = absurd ends
   ended-first (Refused n reason) cause ends =
       nothing (Refused n reason) cause (refl, ends.0, if_some_by told ends.1 (out_first reason)) (refusal_line n reason) (subst (λ (k : ℕ). Appends held held' (refusal_line k reason)) (sym ends.0) ends.2) refl
@@ -64,7 +64,7 @@ module _ (told held held' : Option (List ℕ)) (source source' sink sink' : ℕ)
 
   module _ (l : Limits) (unread held1 : Option (List ℕ)) (is_line : IsLineOf (events.Limits l)) (consumed : Consumes told unread (line_of (events.Limits l) ++ 10 ∷ [])) where
     -- the group of the first line was not written, or not whole
-    pub ended-cut : (ending : Ending) → (ending ≡ SinkFailed → Rose sink sink') → IsUnwritten (group_text (opening l)) held held' ending → IsReplay told held held' source source' sink sink' (code_of ending)
+    pub ended-cut : (ending : SessionEnd) → (ending ≡ SinkFailed → Rose sink sink') → IsUnwritten (group_text (opening l)) held held' ending → IsReplay told held held' source source' sink sink' (code_of ending)
     ended-cut Finished cause cut = absurd cut
     ended-cut (Refused n reason) cause cut = absurd cut
     ended-cut NoMemory cause cut = nothing NoMemory tt tt [] cut refl
@@ -74,7 +74,7 @@ module _ (told held held' : Option (List ℕ)) (source source' sink sink' : ℕ)
     ended-cut Stopped cause cut = absurd cut
 
     -- the lines behind the first were taken
-    pub replayed : Appends held held1 (group_text (opening l)) → (ending : Ending) (source1 sink1 : ℕ) → HasCause ending source source' sink sink' → AreTaken l unread held1 held' source1 source' sink1 sink' ending
+    pub replayed : Appends held held1 (group_text (opening l)) → (ending : SessionEnd) (source1 sink1 : ℕ) → HasCause ending source source' sink sink' → AreTaken l unread held1 held' source1 source' sink1 sink' ending
         → IsReplay told held held' source source' sink sink' (code_of ending)
     replayed appended ending source1 sink1 cause taken = record {
       transcript = opening l ∷ taken.groups;

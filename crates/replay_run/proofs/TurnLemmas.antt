@@ -10,8 +10,8 @@ use Rattle.session_script.specs.Fault.{IsLineFault}
 use Rattle.session_script.specs.Line.{line_of}
 use Rattle.blob_words.specs.declared.limits.Limits.{Limits}
 use Rattle.blob_source.specs.Lines.{has_line_feed}
-use Rattle.replay_run.specs.declared.ending.Ending.{Ending}
-use Rattle.replay_run.specs.declared.ending.Ending.TheVariants.{Finished, Refused, NoMemory, SourceFailed, SinkFailed, Stopped}
+use Rattle.replay_run.specs.declared.session_end.SessionEnd.{SessionEnd}
+use Rattle.replay_run.specs.declared.session_end.SessionEnd.TheVariants.{Finished, Refused, NoMemory, SourceFailed, SinkFailed, Stopped}
 use Rattle.replay_run.specs.declared.reason.Reason.{Reason}
 use Rattle.replay_run.specs.declared.reason.Reason.TheVariants as reasons
 use Rattle.replay_run.specs.declared.turn.Turn.TheVariants.{Over}
@@ -81,7 +81,7 @@ with_event P (Some bytes) (Some rest) line event taken is spelled out =
 -- ---- how a session ends at a line
 
 module _ (Next : Group → Type 0) (IsOut : Reason → List ℕ → Type 0) (number : ℕ) (unread held held' : Option (List ℕ)) where
-  pub ends-refused : (reason : Reason) (ending : Ending) → IfSome unread (IsOut reason) → IsRefusal number reason held held' ending → EndsAt Next IsOut number unread held held' ending
+  pub ends-refused : (reason : Reason) (ending : SessionEnd) → IfSome unread (IsOut reason) → IsRefusal number reason held held' ending → EndsAt Next IsOut number unread held held' ending
   ends-refused reason Finished out written = absurd written
   ends-refused reason (Refused n why) out written =
       (written.0, subst (λ (word : Reason). IfSome unread (IsOut word)) (sym written.1) out, subst (λ (word : Reason). Appends held held' (refusal_line number word)) (sym written.1) written.2)
@@ -90,12 +90,12 @@ module _ (Next : Group → Type 0) (IsOut : Reason → List ℕ → Type 0) (num
   ends-refused reason SinkFailed out written = (written.0, written.1, inr (reason, out, written.2))
   ends-refused reason Stopped out written = absurd written
 
-  pub ends-fault : (why : Option Reason) (ending : Ending) → ((reason : Reason) → why ≡ Some reason → IfSome unread (IsOut reason)) → IsFaultRefusal number why held held' ending → EndsAt Next IsOut number unread held held' ending
-  ends-fault None ending out written = subst (λ (e : Ending). EndsAt Next IsOut number unread held held' e) (sym written.0) written.1
+  pub ends-fault : (why : Option Reason) (ending : SessionEnd) → ((reason : Reason) → why ≡ Some reason → IfSome unread (IsOut reason)) → IsFaultRefusal number why held held' ending → EndsAt Next IsOut number unread held held' ending
+  ends-fault None ending out written = subst (λ (e : SessionEnd). EndsAt Next IsOut number unread held held' e) (sym written.0) written.1
   ends-fault (Some reason) ending out written = ends-refused reason ending (out reason refl) written
 
 -- the same behind the first line
-pub turned-ends : (l : Limits) (h : History) (number : ℕ) (unread unread' held held' : Option (List ℕ)) (s : Store) (ending : Ending)
+pub turned-ends : (l : Limits) (h : History) (number : ℕ) (unread unread' held held' : Option (List ℕ)) (s : Store) (ending : SessionEnd)
     → EndsAt (IsLegalGroup l h) (IsOutAt l h) number unread held held' ending → Turned l h number unread unread' held held' s (Over ending)
 turned-ends l h number unread unread' held held' s Finished ends = absurd ends
 turned-ends l h number unread unread' held held' s (Refused n reason) ends = ends

@@ -11,7 +11,7 @@ pub mod Legal
 pub mod Reason
 pub mod Text
 pub mod Reads
-pub mod Ending
+pub mod SessionEnd
 pub mod Run
 pub mod Rows
 pub mod Shelf

@@ -6,8 +6,8 @@ use Rattle.session_script.specs.Line.{line_of}
 use Rattle.blob_words.specs.declared.limits.Limits.{Limits}
 use Rattle.answer_text.specs.Text.{group_text, groups_text}
 use Rattle.answer_text.specs.declared.group.Group.{Group}
-use Rattle.replay_run.specs.declared.ending.Ending.{Ending}
-use Rattle.replay_run.specs.declared.ending.Ending.TheVariants.{Finished, Refused, NoMemory, SourceFailed, SinkFailed, Stopped}
+use Rattle.replay_run.specs.declared.session_end.SessionEnd.{SessionEnd}
+use Rattle.replay_run.specs.declared.session_end.SessionEnd.TheVariants.{Finished, Refused, NoMemory, SourceFailed, SinkFailed, Stopped}
 use Rattle.replay_run.specs.declared.reason.Reason.{Reason}
 use Rattle.replay_run.specs.declared.reason.Reason.TheVariants as reasons
 use Rattle.replay_run.specs.declared.turn.Turn.{Turn}
@@ -33,7 +33,7 @@ pub record IsTaken (l : Limits) (h : History) (unread unread' held held' : Optio
   pub nothing_owed : unfinished (after h group.event group.answers) ≡ []
 
 -- how the session ended at a line of this number, where no group was taken; two predicates say which groups may come next, and which words apply
-abbrev pub EndsAt : (Group → Type 0) → (Reason → List ℕ → Type 0) → ℕ → Option (List ℕ) → Option (List ℕ) → Option (List ℕ) → Ending → Type 0
+abbrev pub EndsAt : (Group → Type 0) → (Reason → List ℕ → Type 0) → ℕ → Option (List ℕ) → Option (List ℕ) → Option (List ℕ) → SessionEnd → Type 0
 EndsAt Next IsOut number unread held held' Finished = ⊥
 EndsAt Next IsOut number unread held held' (Refused n reason) = (n ≡ number) × IfSome unread (IsOut reason) × Appends held held' (refusal_line number reason)
 EndsAt Next IsOut number unread held held' NoMemory = Appends held held' []
@@ -66,7 +66,7 @@ Turned l h number unread unread' held held' store (Over Finished) = (taken : IsT
 Turned l h number unread unread' held held' store (Over ending) = EndsAt (IsLegalGroup l h) (IsOutAt l h) number unread held held' ending
 
 -- the lines behind the first, all of them
-pub record AreTaken (l : Limits) (unread held held' : Option (List ℕ)) (source source' sink sink' : ℕ) (ending : Ending) : Type 0 where
+pub record AreTaken (l : Limits) (unread held held' : Option (List ℕ)) (source source' sink sink' : ℕ) (ending : SessionEnd) : Type 0 where
   pub groups : List Group
   pub legal : IsLegalFrom l start groups
   pub lines : AllByRecursion IsLineOf (events_of groups)

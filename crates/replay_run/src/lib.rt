@@ -1,12 +1,13 @@
 //! A session replayed against a blob store: bytes in, a transcript out.
 #![tactic(auto)]
 
-pub mod ending;
-pub mod reason;
-pub mod refusal_line;
-pub mod replay;
+mod reason;
+mod refusal_line;
+// The worked session, whose laws are contracts of public calls.
 pub mod rows;
-pub mod store;
-pub mod turn;
+mod session;
+mod session_end;
+mod store;
+mod turn;
 
-pub use crate::replay::run;
+pub use crate::session::run;

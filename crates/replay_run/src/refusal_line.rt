@@ -21,8 +21,9 @@ pub struct RefusalLine {
 }
 
 fn put_words<K: Sink>(buffer: &mut Buffer, out: &mut K, line: &RefusalLine) -> Result<(), Failed>
-    ensures { IsPutTo K.held K.faults out.old out.new buffer.old buffer.new
-        (joined 32 (codes "!" ∷ decimal line.now.number ∷ reason_text line.now.reason ∷ [])) result }
+    ensures { IsPutTo K.Sink out.old out.new buffer.old buffer.new
+        (joined 32 (codes "!" ∷ decimal line.now.number
+        ∷ reason_text line.now.reason ∷ [])) result }
 {
     let word = Literal {
         text: line.reason.text(),

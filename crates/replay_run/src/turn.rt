@@ -1,4 +1,4 @@
-use crate::ending::Ending;
+use crate::session_end::SessionEnd;
 
 /// What one line of a session led to.
 #[derive(Clone, Copy, Debug, PartialEq, Eq)]
@@ -6,5 +6,5 @@ pub enum Turn {
     /// The session goes on.
     More,
     /// It is over.
-    Over(Ending),
+    Over(SessionEnd),
 }

@@ -1,5 +1,8 @@
-ghost use Rattle.std.specs.Prelude.{◌≡◌, ◌+◌, ◌*◌, ◌%◌, ◌^◌, ◌<◌, ◌==◌, [], ◌∷◌, ◌++◌, if◌then◌else◌, pos, Some, None, IfOk, OnOk};
-ghost use Rattle.session_gen.specs.Gen.{build_line, builder, built, data_line, disk_lines, drop_lines, read_line, reader, round_lines, slice_line, sliced, source, span, start, step_line};
+ghost use Rattle.std.specs.Prelude.{◌≡◌, ◌+◌, ◌*◌, ◌%◌, ◌^◌, ◌<◌, ◌==◌, [], ◌∷◌, ◌++◌};
+ghost use Rattle.std.specs.Prelude.{if◌then◌else◌, pos, Some, None, IfOk, OnOk};
+ghost use Rattle.session_gen.specs.Gen.{build_line, builder, built, data_line, disk_lines};
+ghost use Rattle.session_gen.specs.Gen.{drop_lines, read_line, reader, round_lines, slice_line};
+ghost use Rattle.session_gen.specs.Gen.{sliced, source, span, start, step_line};
 
 use crate::words::Words;
 use blob_words::{BlobName, JobNo, NoMemory, Octets, ReaderId, RendererId};
@@ -121,8 +124,10 @@ fn push_reads(alloc: Global, events: &mut Vec<Event>, cut: &Cut, i: u32) -> Resu
     requires source { cut.now.source < 4096 }
     requires range { (cut.now.start < 2 ^ 11) × (cut.now.end < 2 ^ 12) }
     ensures { OnOk result (events.new.items ≡ events.old.items
-        ++ (Event.Slice (builder cut.now.source) (sliced i) (built cut.now.source) (Some (pos cut.now.start)) (Some (pos cut.now.end)) []
-        ∷ Event.Read (builder cut.now.source) (record { 0 = i }) (sliced i) 0 None ∷ step_line i ∷ step_line i ∷ [])) }
+        ++ (Event.Slice (builder cut.now.source) (sliced i) (built cut.now.source)
+        (Some (pos cut.now.start)) (Some (pos cut.now.end)) []
+        ∷ Event.Read (builder cut.now.source) (record { 0 = i }) (sliced i) 0 None ∷ step_line i
+        ∷ step_line i ∷ [])) }
 {
     let r = builder(cut.source);
     events.push(Event::Slice {

@@ -52,7 +52,8 @@ impl Words {
     /// Draws so many words, and puts their bytes behind each other, the lowest of each first.
     pub fn draw_bytes(&mut self, alloc: Global, count: u32) -> Result<Octets, NoMemory>
         requires { self.old.count + count < 2 ^ 32 }
-        ensures bytes { IfOk result (λ bytes. bytes ≡ word_bytes self.old.key self.old.count count) }
+        ensures bytes { IfOk result
+            (λ bytes. bytes ≡ word_bytes self.old.key self.old.count count) }
         ensures rest { OnOk result
             (self.new ≡ record self.old { count = self.old.count + count }) }
     {

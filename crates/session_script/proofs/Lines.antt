@@ -4,7 +4,7 @@ use Rattle.std.specs.List.{AllByRecursion, list_any}
 use Rattle.std.proofs.lemmas.List.{length-map}
 use Rattle.blob_words.specs.BlobName.{name_text}
 use Rattle.blob_words.specs.declared.limits.Limits.{Limits}
-use Rattle.session_script.specs.EventReading.{ReadsEvent}
+use Rattle.session_script.specs.Reading.{ReadsEvent}
 use Rattle.session_script.specs.Fault.{IsPart, IsPartFault, IsFirstPartFault, IsBuildFault, IsLimitsFault, IsOwnFault, IsWordsFault, IsLineFault, kinds_of, kinds_of_letter}
 use Rattle.text_fields.specs.Fields.{joined, hex_text}
 use Rattle.text_fields.specs.Kind.{AllSpell, IsFirstFault}

@@ -1,4 +1,4 @@
 pub mod Word
 pub mod Line
 pub mod Fault
-pub mod EventReading
+pub mod Reading

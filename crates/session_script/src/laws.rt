@@ -13,7 +13,8 @@ pub fn lines_are_injective()
 
 /// The line of an event has no fault.
 pub fn lines_have_no_fault()
-    ensures { (event : Event) → HasSpelling event → (fault : LineFault) → IsLineFault fault (line_of event) → ⊥ }
+    ensures { (event : Event) → HasSpelling event → (fault : LineFault)
+        → IsLineFault fault (line_of event) → ⊥ }
 {}
 
 /// No line has two faults.

@@ -1,8 +1,9 @@
 //! The letters that parts begin with.
 
-ghost use Rattle.std.specs.Prelude.{◌≡◌, ◌≢◌, MatchOption};
 ghost use Rattle.session_script.specs.Word.{letter_text};
-ghost use Rattle.session_script.specs.declared.letter.Letter.{Letter as ALetter};
+ghost use Rattle.text_fields.specs.Keyword.{IsWordOf};
+
+use text_fields::keyword::{Keyword, find};
 
 /// The letter of a part.
 #[derive(Clone, Copy, Debug, PartialEq, Eq)]
@@ -14,11 +15,19 @@ pub enum Letter {
     HandleRange,
 }
 
-impl Letter {
-    /// The text of the letter.
-    pub fn text(self) -> &'static [u8]
-        ensures { result.now ≡ letter_text self }
-    {
+// All letters.
+const LETTERS: [Letter; 5] = [
+    Letter::Embedded,
+    Letter::Asked,
+    Letter::FileRange,
+    Letter::BlobRange,
+    Letter::HandleRange,
+];
+
+impl Keyword for Letter {
+    ghost text = { letter_text };
+
+    fn text(self) -> &'static [u8] {
         match self {
             Letter::Embedded => b"b",
             Letter::Asked => b"n",
@@ -27,26 +36,13 @@ impl Letter {
             Letter::HandleRange => b"h",
         }
     }
+}
 
+impl Letter {
     /// The letter of this text, where there is one.
     pub fn from_text(text: &[u8]) -> Option<Letter>
-        ensures { MatchOption result ((letter : ALetter) → text.now ≢ letter_text letter) (λ letter. text.now ≡ letter_text letter) }
+        ensures { IsWordOf letter_text text.now result }
     {
-        if text == b"b".as_slice() {
-            return Some(Letter::Embedded);
-        }
-        if text == b"n".as_slice() {
-            return Some(Letter::Asked);
-        }
-        if text == b"f".as_slice() {
-            return Some(Letter::FileRange);
-        }
-        if text == b"s".as_slice() {
-            return Some(Letter::BlobRange);
-        }
-        if text == b"h".as_slice() {
-            return Some(Letter::HandleRange);
-        }
-        None
+        find(&LETTERS, text)
     }
 }

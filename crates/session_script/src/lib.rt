@@ -1,13 +1,15 @@
 //! The events of a session, and the lines that spell them.
 #![tactic(auto)]
 
+// Contracts above see the types of `event`.
 pub mod event;
+// The laws, which are contracts of public calls.
 pub mod laws;
-pub mod letter;
-pub mod line;
-pub mod part;
-pub mod print;
-pub mod word;
+mod letter;
+mod line;
+mod part;
+mod print;
+mod word;
 
 pub use event::{Event, Part, Parts};
 pub use line::read_line;

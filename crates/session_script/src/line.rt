@@ -3,7 +3,7 @@
 ghost use Rattle.std.specs.Prelude.{◌≡◌, ◌≢◌, ◌≤◌, length, map, decimal, IfErr};
 ghost use Rattle.session_script.specs.Fault.{IsLimitsFault, IsBuildFault, IsLineFault};
 ghost use Rattle.session_script.specs.Line.{limit_numbers, event_fields, line_of, HasSpelling};
-ghost use Rattle.session_script.specs.EventReading.{ReadsEvent};
+ghost use Rattle.session_script.specs.Reading.{ReadsEvent};
 ghost use Rattle.text_fields.specs.Reading.{IsReading};
 ghost use Rattle.session_script.specs.declared.event.Event.{Event as AnEvent};
 ghost use Rattle.text_fields.specs.declared.line_fault.LineFault.TheVariants.{Memory};
@@ -22,14 +22,12 @@ use text_fields::fields::Fields;
 use text_fields::row::Row;
 
 fn read_numbers(alloc: Global, fields: &mut Fields<'_>) -> Result<Limits, LineFault>
-    ensures { IsReading IsLimitsFault (λ _. Unit {0}) (λ limits. map decimal (limit_numbers limits)) fields.old result }
+    ensures { IsReading IsLimitsFault (λ _. Unit {0})
+        (λ limits. map decimal (limit_numbers limits)) fields.old result }
 {
-    let (memory, disk, big, inline_max, segment, page, chunk) = match fields.row::<
+    let (memory, disk, big, inline_max, segment, page, chunk) = fields.row::<
         (u64, u64, u64, u64, u64, u64, u64),
-    >(alloc) {
-        Ok(numbers) => numbers,
-        Err(fault) => return Err(fault),
-    };
+    >(alloc)?;
     match Limits::new(memory, disk, big, inline_max, segment, page, chunk) {
         Ok(limits) => Ok(limits),
         Err(_) => Err(LineFault::Limits),
@@ -39,19 +37,15 @@ fn read_numbers(alloc: Global, fields: &mut Fields<'_>) -> Result<Limits, LineFa
 fn read_limits(alloc: Global, fields: &mut Fields<'_>) -> Result<Event, LineFault>
     ensures { ReadsEvent Word.Limits fields.old result }
 {
-    match read_numbers(alloc, fields) {
-        Ok(limits) => Ok(Event::Limits(limits)),
-        Err(fault) => Err(fault),
-    }
+    let limits = read_numbers(alloc, fields)?;
+    Ok(Event::Limits(limits))
 }
 
 fn read_limits2(alloc: Global, fields: &mut Fields<'_>) -> Result<Event, LineFault>
     ensures { ReadsEvent Word.Limits2 fields.old result }
 {
-    match read_numbers(alloc, fields) {
-        Ok(limits) => Ok(Event::Limits2(limits)),
-        Err(fault) => Err(fault),
-    }
+    let limits = read_numbers(alloc, fields)?;
+    Ok(Event::Limits2(limits))
 }
 
 fn read_build(alloc: Global, fields: &mut Fields<'_>) -> Result<Event, LineFault>
@@ -79,37 +73,29 @@ fn read_build(alloc: Global, fields: &mut Fields<'_>) -> Result<Event, LineFault
 fn read_spawn(alloc: Global, fields: &mut Fields<'_>) -> Result<Event, LineFault>
     ensures { ReadsEvent Word.Spawn fields.old result }
 {
-    match fields.row::<(RendererId, Origin)>(alloc) {
-        Ok((r, origin)) => Ok(Event::Spawn { r, origin }),
-        Err(fault) => Err(fault),
-    }
+    let (r, origin) = fields.row::<(RendererId, Origin)>(alloc)?;
+    Ok(Event::Spawn { r, origin })
 }
 
 fn read_die(alloc: Global, fields: &mut Fields<'_>) -> Result<Event, LineFault>
     ensures { ReadsEvent Word.Die fields.old result }
 {
-    match fields.row::<(RendererId,)>(alloc) {
-        Ok((r,)) => Ok(Event::Die { r }),
-        Err(fault) => Err(fault),
-    }
+    let (r,) = fields.row::<(RendererId,)>(alloc)?;
+    Ok(Event::Die { r })
 }
 
 fn read_file(alloc: Global, fields: &mut Fields<'_>) -> Result<Event, LineFault>
     ensures { ReadsEvent Word.File fields.old result }
 {
-    match fields.row::<(FileName, u64, Octets)>(alloc) {
-        Ok((name, stamp, bytes)) => Ok(Event::File { name, stamp, bytes }),
-        Err(fault) => Err(fault),
-    }
+    let (name, stamp, bytes) = fields.row::<(FileName, u64, Octets)>(alloc)?;
+    Ok(Event::File { name, stamp, bytes })
 }
 
 fn read_gone(alloc: Global, fields: &mut Fields<'_>) -> Result<Event, LineFault>
     ensures { ReadsEvent Word.Gone fields.old result }
 {
-    match fields.row::<(FileName,)>(alloc) {
-        Ok((name,)) => Ok(Event::Gone { name }),
-        Err(fault) => Err(fault),
-    }
+    let (name,) = fields.row::<(FileName,)>(alloc)?;
+    Ok(Event::Gone { name })
 }
 
 fn read_slice(alloc: Global, fields: &mut Fields<'_>) -> Result<Event, LineFault>
@@ -141,115 +127,95 @@ fn read_slice(alloc: Global, fields: &mut Fields<'_>) -> Result<Event, LineFault
 fn read_segment(alloc: Global, fields: &mut Fields<'_>) -> Result<Event, LineFault>
     ensures { ReadsEvent Word.Segment fields.old result }
 {
-    match fields.row::<(RendererId, BlobName, u32, Octets)>(alloc) {
-        Ok((r, b, seg, bytes)) => Ok(Event::Segment { r, b, seg, bytes }),
-        Err(fault) => Err(fault),
-    }
+    let (r, b, seg, bytes) = fields.row::<(RendererId, BlobName, u32, Octets)>(alloc)?;
+    Ok(Event::Segment { r, b, seg, bytes })
 }
 
 fn read_pass(alloc: Global, fields: &mut Fields<'_>) -> Result<Event, LineFault>
     ensures { ReadsEvent Word.Pass fields.old result }
 {
-    match fields.row::<(RendererId, RendererId, BlobName)>(alloc) {
-        Ok((r, to, b)) => Ok(Event::Pass { r, to, b }),
-        Err(fault) => Err(fault),
-    }
+    let (r, to, b) = fields.row::<(RendererId, RendererId, BlobName)>(alloc)?;
+    Ok(Event::Pass { r, to, b })
 }
 
 fn read_drop(alloc: Global, fields: &mut Fields<'_>) -> Result<Event, LineFault>
     ensures { ReadsEvent Word.Drop fields.old result }
 {
-    match fields.row::<(RendererId, BlobName)>(alloc) {
-        Ok((r, b)) => Ok(Event::Drop { r, b }),
-        Err(fault) => Err(fault),
-    }
+    let (r, b) = fields.row::<(RendererId, BlobName)>(alloc)?;
+    Ok(Event::Drop { r, b })
 }
 
 fn read_stat(alloc: Global, fields: &mut Fields<'_>) -> Result<Event, LineFault>
     ensures { ReadsEvent Word.Stat fields.old result }
 {
-    match fields.row::<(RendererId, BlobName)>(alloc) {
-        Ok((r, b)) => Ok(Event::Stat { r, b }),
-        Err(fault) => Err(fault),
-    }
+    let (r, b) = fields.row::<(RendererId, BlobName)>(alloc)?;
+    Ok(Event::Stat { r, b })
 }
 
 fn read_url(alloc: Global, fields: &mut Fields<'_>) -> Result<Event, LineFault>
     ensures { ReadsEvent Word.Url fields.old result }
 {
-    match fields.row::<(RendererId, BlobName, UrlText)>(alloc) {
-        Ok((r, b, text)) => Ok(Event::Url { r, b, text }),
-        Err(fault) => Err(fault),
-    }
+    let (r, b, text) = fields.row::<(RendererId, BlobName, UrlText)>(alloc)?;
+    Ok(Event::Url { r, b, text })
 }
 
 fn read_revoke(alloc: Global, fields: &mut Fields<'_>) -> Result<Event, LineFault>
     ensures { ReadsEvent Word.Revoke fields.old result }
 {
-    match fields.row::<(RendererId, UrlText)>(alloc) {
-        Ok((r, text)) => Ok(Event::Revoke { r, text }),
-        Err(fault) => Err(fault),
-    }
+    let (r, text) = fields.row::<(RendererId, UrlText)>(alloc)?;
+    Ok(Event::Revoke { r, text })
 }
 
 fn read_read(alloc: Global, fields: &mut Fields<'_>) -> Result<Event, LineFault>
     ensures { ReadsEvent Word.Read fields.old result }
 {
-    match fields.row::<(RendererId, ReaderId, BlobName, u64, Option<u64>)>(alloc) {
-        Ok((r, q, b, off, len)) => Ok(Event::Read { r, q, b, off, len }),
-        Err(fault) => Err(fault),
-    }
+    let (r, q, b, off, len) = fields.row::<(RendererId, ReaderId, BlobName, u64, Option<u64>)>(
+        alloc,
+    )?;
+    Ok(Event::Read { r, q, b, off, len })
 }
 
 fn read_fetch(alloc: Global, fields: &mut Fields<'_>) -> Result<Event, LineFault>
     ensures { ReadsEvent Word.Fetch fields.old result }
 {
-    match fields.row::<(RendererId, ReaderId, UrlText, u64, Option<u64>)>(alloc) {
-        Ok((r, q, text, off, len)) => Ok(Event::Fetch {
-            r,
-            q,
-            text,
-            off,
-            len,
-        }),
-        Err(fault) => Err(fault),
-    }
+    let (r, q, text, off, len) = fields.row::<(RendererId, ReaderId, UrlText, u64, Option<u64>)>(
+        alloc,
+    )?;
+    Ok(Event::Fetch {
+        r,
+        q,
+        text,
+        off,
+        len,
+    })
 }
 
 fn read_step(alloc: Global, fields: &mut Fields<'_>) -> Result<Event, LineFault>
     ensures { ReadsEvent Word.Step fields.old result }
 {
-    match fields.row::<(ReaderId,)>(alloc) {
-        Ok((q,)) => Ok(Event::Step { q }),
-        Err(fault) => Err(fault),
-    }
+    let (q,) = fields.row::<(ReaderId,)>(alloc)?;
+    Ok(Event::Step { q })
 }
 
 fn read_cancel(alloc: Global, fields: &mut Fields<'_>) -> Result<Event, LineFault>
     ensures { ReadsEvent Word.Cancel fields.old result }
 {
-    match fields.row::<(RendererId, ReaderId)>(alloc) {
-        Ok((r, q)) => Ok(Event::Cancel { r, q }),
-        Err(fault) => Err(fault),
-    }
+    let (r, q) = fields.row::<(RendererId, ReaderId)>(alloc)?;
+    Ok(Event::Cancel { r, q })
 }
 
 fn read_disk(alloc: Global, fields: &mut Fields<'_>) -> Result<Event, LineFault>
     ensures { ReadsEvent Word.Disk fields.old result }
 {
-    match fields.row::<(JobNo,)>(alloc) {
-        Ok((j,)) => Ok(Event::Disk { j }),
-        Err(fault) => Err(fault),
-    }
+    let (j,) = fields.row::<(JobNo,)>(alloc)?;
+    Ok(Event::Disk { j })
 }
 
 fn read_lost(alloc: Global, fields: &mut Fields<'_>) -> Result<Event, LineFault>
     ensures { ReadsEvent Word.Lost fields.old result }
 {
-    match fields.row::<(JobNo,)>(alloc) {
-        Ok((j,)) => Ok(Event::Lost { j }),
-        Err(fault) => Err(fault),
-    }
+    let (j,) = fields.row::<(JobNo,)>(alloc)?;
+    Ok(Event::Lost { j })
 }
 
 fn read_count(fields: &Fields<'_>) -> Result<Event, LineFault>
@@ -302,7 +268,8 @@ fn read_own(alloc: Global, word: Word, fields: &mut Fields<'_>) -> Result<Event,
 /// The event of a line that has no line feed, or the one thing that is wrong with the line.
 pub fn read_line(alloc: Global, line: &[u8]) -> Result<Event, LineFault>
     ensures read { IsReading IsLineFault HasSpelling line_of line.now result }
-    ensures refused { IfErr result (λ fault. fault ≢ Memory → (event : AnEvent) → HasSpelling event → line.now ≢ line_of event) }
+    ensures refused { IfErr result (λ fault. fault ≢ Memory → (event : AnEvent) → HasSpelling event
+        → line.now ≢ line_of event) }
 {
     let mut fields = Fields::new(b' ', line);
     let Some(first) = fields.next() else {

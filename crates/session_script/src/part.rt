@@ -2,9 +2,9 @@
 
 ghost use Rattle.std.specs.Prelude.{◌≡◌, ◌≤◌, length, map, IfOk};
 ghost use Rattle.std.specs.List.{AllByRecursion};
-ghost use Rattle.session_script.specs.Fault.{kinds_of_letter, IsPart, IsPartFault, IsFirstPartFault};
+ghost use Rattle.session_script.specs.Reading.{ReadsPart};
+ghost use Rattle.session_script.specs.Fault.{IsPart, IsPartFault, IsFirstPartFault};
 ghost use Rattle.text_fields.specs.Fields.{fields};
-ghost use Rattle.text_fields.specs.Kind.{IsRowFault};
 ghost use Rattle.session_script.specs.Line.{letter_of, part_fields, part_text, PartHasText};
 ghost use Rattle.text_fields.specs.Output.{IsPutTo};
 ghost use Rattle.text_fields.specs.Reading.{split, IsReading};
@@ -18,60 +18,51 @@ use text_fields::LineFault;
 use text_fields::buffer::Buffer;
 use text_fields::field::{Positive, Spell};
 use text_fields::fields::Fields;
+use text_fields::keyword::Keyword;
 use text_fields::values::Values;
 
 fn read_embedded(alloc: Global, fields: &mut Fields<'_>) -> Result<Part, LineFault>
-    ensures { IsReading (IsRowFault (kinds_of_letter Letter.Embedded)) (λ part. PartHasText part × (letter_of part ≡ Letter.Embedded)) part_fields fields.old result }
+    ensures { ReadsPart Letter.Embedded fields.old result }
 {
-    match fields.row::<(Octets,)>(alloc) {
-        Ok((bytes,)) => Ok(Part::Embedded(bytes)),
-        Err(fault) => Err(fault),
-    }
+    let (bytes,) = fields.row::<(Octets,)>(alloc)?;
+    Ok(Part::Embedded(bytes))
 }
 
 fn read_asked(alloc: Global, fields: &mut Fields<'_>) -> Result<Part, LineFault>
-    ensures { IsReading (IsRowFault (kinds_of_letter Letter.Asked)) (λ part. PartHasText part × (letter_of part ≡ Letter.Asked)) part_fields fields.old result }
+    ensures { ReadsPart Letter.Asked fields.old result }
 {
-    match fields.row::<(u64,)>(alloc) {
-        Ok((len,)) => Ok(Part::Asked(len)),
-        Err(fault) => Err(fault),
-    }
+    let (len,) = fields.row::<(u64,)>(alloc)?;
+    Ok(Part::Asked(len))
 }
 
 fn read_file_range(alloc: Global, fields: &mut Fields<'_>) -> Result<Part, LineFault>
-    ensures { IsReading (IsRowFault (kinds_of_letter Letter.FileRange)) (λ part. PartHasText part × (letter_of part ≡ Letter.FileRange)) part_fields fields.old result }
+    ensures { ReadsPart Letter.FileRange fields.old result }
 {
-    match fields.row::<(FileName, u64, u64, u64)>(alloc) {
-        Ok((name, off, len, stamp)) => Ok(Part::FileRange {
-            name,
-            off,
-            len,
-            stamp,
-        }),
-        Err(fault) => Err(fault),
-    }
+    let (name, off, len, stamp) = fields.row::<(FileName, u64, u64, u64)>(alloc)?;
+    Ok(Part::FileRange {
+        name,
+        off,
+        len,
+        stamp,
+    })
 }
 
 fn read_blob_range(alloc: Global, fields: &mut Fields<'_>) -> Result<Part, LineFault>
-    ensures { IsReading (IsRowFault (kinds_of_letter Letter.BlobRange)) (λ part. PartHasText part × (letter_of part ≡ Letter.BlobRange)) part_fields fields.old result }
+    ensures { ReadsPart Letter.BlobRange fields.old result }
 {
-    match fields.row::<(BlobName, u64, u64)>(alloc) {
-        Ok((b, off, len)) => Ok(Part::BlobRange { b, off, len }),
-        Err(fault) => Err(fault),
-    }
+    let (b, off, len) = fields.row::<(BlobName, u64, u64)>(alloc)?;
+    Ok(Part::BlobRange { b, off, len })
 }
 
 fn read_handle_range(alloc: Global, fields: &mut Fields<'_>) -> Result<Part, LineFault>
-    ensures { IsReading (IsRowFault (kinds_of_letter Letter.HandleRange)) (λ part. PartHasText part × (letter_of part ≡ Letter.HandleRange)) part_fields fields.old result }
+    ensures { ReadsPart Letter.HandleRange fields.old result }
 {
-    match fields.row::<(u32, u64, Positive)>(alloc) {
-        Ok((k, off, len)) => Ok(Part::HandleRange { k, off, len: len.0 }),
-        Err(fault) => Err(fault),
-    }
+    let (k, off, len) = fields.row::<(u32, u64, Positive)>(alloc)?;
+    Ok(Part::HandleRange { k, off, len: len.0 })
 }
 
 fn read_behind(alloc: Global, letter: Letter, fields: &mut Fields<'_>) -> Result<Part, LineFault>
-    ensures { IsReading (IsRowFault (kinds_of_letter letter)) (λ part. PartHasText part × (letter_of part ≡ letter)) part_fields fields.old result }
+    ensures { ReadsPart letter fields.old result }
 {
     match letter {
         Letter::Embedded => read_embedded(alloc, fields),
@@ -85,7 +76,8 @@ fn read_behind(alloc: Global, letter: Letter, fields: &mut Fields<'_>) -> Result
 /// The part that a field spells, or the one thing that is wrong with it.
 pub fn read_part(alloc: Global, text: &[u8]) -> Result<Part, LineFault>
     ensures part { IfOk result (λ _. IsPart (split 58 text.now)) }
-    ensures read { IsReading (λ fault part. IsPartFault fault (split 58 part)) PartHasText part_text text.now result }
+    ensures read { IsReading (λ fault part. IsPartFault fault (split 58 part))
+        PartHasText part_text text.now result }
 {
     let mut fields = Fields::new(b':', text);
     let Some(first) = fields.next() else {
@@ -102,7 +94,8 @@ pub fn read_part(alloc: Global, text: &[u8]) -> Result<Part, LineFault>
 
 /// The parts that the fields spell, or what is wrong with the first that spells none.
 pub fn read_parts(alloc: Global, fields: &mut Fields<'_>) -> Result<Parts, LineFault>
-    ensures { IsReading IsFirstPartFault (AllByRecursion PartHasText) (map part_text) fields.old result }
+    ensures { IsReading IsFirstPartFault (AllByRecursion PartHasText)
+        (map part_text) fields.old result }
 {
     let mut parts = Parts::new(alloc);
     while let Some(text) = fields.next() {
@@ -130,7 +123,7 @@ fn letter_of(part: &Part) -> Letter
 }
 
 fn put_behind<K: Sink>(buffer: &mut Buffer, out: &mut K, part: &Part) -> Result<(), Failed>
-    ensures { IsPutTo K.held K.faults out.old out.new buffer.old buffer.new
+    ensures { IsPutTo K.Sink out.old out.new buffer.old buffer.new
         (fields 58 (part_fields part.now)) result }
 {
     match part {

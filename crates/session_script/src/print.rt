@@ -4,7 +4,7 @@ ghost use Rattle.std.specs.Prelude.{◌≡◌, ◌++◌, ◌≤◌, map, decimal
 ghost use Rattle.blob_source.specs.Faults.{Rose};
 ghost use Rattle.text_fields.specs.Fields.{fields};
 ghost use Rattle.session_script.specs.Line.{limit_numbers, word_of, event_fields, line_of};
-ghost use Rattle.text_fields.specs.Output.{IsPutTo, IsStreamed};
+ghost use Rattle.text_fields.specs.Output.{IsPutTo, IsStreamedTo};
 
 use crate::event::{Event, Parts};
 use crate::word::Word;
@@ -13,6 +13,7 @@ use blob_words::{BlobName, Failed, Limits, NoMemory, Octets, RendererId};
 use std::alloc::Global;
 use text_fields::buffer::Buffer;
 use text_fields::field::Spell;
+use text_fields::keyword::Keyword;
 use text_fields::put::put_each;
 use text_fields::stream::{print, stream};
 use text_fields::values::Values;
@@ -47,7 +48,7 @@ fn word_of(event: &Event) -> Word
 }
 
 fn put_limits<K: Sink>(buffer: &mut Buffer, out: &mut K, limits: &Limits) -> Result<(), Failed>
-    ensures { IsPutTo K.held K.faults out.old out.new buffer.old buffer.new
+    ensures { IsPutTo K.Sink out.old out.new buffer.old buffer.new
         (fields 32 (map decimal (limit_numbers limits.now))) result }
 {
     (
@@ -70,7 +71,7 @@ fn put_build<K: Sink>(
     kind: &Octets,
     parts: &Parts,
 ) -> Result<(), Failed>
-    ensures { IsPutTo K.held K.faults out.old out.new buffer.old buffer.new
+    ensures { IsPutTo K.Sink out.old out.new buffer.old buffer.new
         (fields 32 (event_fields (Event.Build r.now b.now kind.now parts.now))) result }
 {
     match (r, b, kind).put_all(buffer, out, b' ') {
@@ -80,7 +81,7 @@ fn put_build<K: Sink>(
 }
 
 fn put_own<K: Sink>(buffer: &mut Buffer, out: &mut K, event: &Event) -> Result<(), Failed>
-    ensures { IsPutTo K.held K.faults out.old out.new buffer.old buffer.new
+    ensures { IsPutTo K.Sink out.old out.new buffer.old buffer.new
         (fields 32 (event_fields event.now)) result }
 {
     match event {
@@ -139,7 +140,7 @@ impl Spell for Event {
 /// no memory. After `Failed`, which comes only where the sink's count rose, a front of the line
 /// was written that lacks some byte.
 pub fn stream_event<K: Sink>(event: &Event, out: &mut K) -> Result<(), Failed>
-    ensures { IsStreamed (K.held out.old) (K.held out.new) (K.faults out.old) (K.faults out.new) (line_of event.now) result }
+    ensures { IsStreamedTo K.Sink out.old out.new (line_of event.now) result }
 {
     stream(event, out)
 }

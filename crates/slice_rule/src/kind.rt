@@ -26,7 +26,8 @@ fn is_kept(text: &[u8]) -> bool
 pub fn normal_type(text: &mut [u8]) -> usize
     ensures kept { take result text.new ≡ kept_type text.old }
     ensures length { result ≡ length (kept_type text.old) }
-    ensures text { text.new ≡ (if is_kept text.old then map to_ascii_lowercase text.old else text.old) }
+    ensures text { text.new ≡
+        (if is_kept text.old then map to_ascii_lowercase text.old else text.old) }
 {
     if !is_kept(text) {
         return 0;

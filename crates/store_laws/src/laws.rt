@@ -2,7 +2,8 @@ ghost use Rattle.store_laws.specs.AgreeLaws.{EntriesAgree, ReachesFollows};
 ghost use Rattle.store_laws.specs.BuildLaws.{BuildsAdd, ContentsGrow, GrownStands, ListedAreThere};
 ghost use Rattle.store_laws.specs.PageLaws.{ArePagesInTurn, DiskIsCharged};
 ghost use Rattle.store_laws.specs.PartLaws.{RecipesStand};
-ghost use Rattle.store_laws.specs.ReachLaws.{ChargesAreTold, HeldIsReached, SettledRests, SlotsAreReached};
+ghost use Rattle.store_laws.specs.ReachLaws.{ChargesAreTold, HeldIsReached, SettledRests};
+ghost use Rattle.store_laws.specs.ReachLaws.{SlotsAreReached};
 ghost use Rattle.store_laws.specs.CellLaws.{DenotedLaws};
 ghost use Rattle.store_laws.specs.CountLaws.{TellsHowMany};
 ghost use Rattle.store_laws.specs.EntryLaws.{NewEntries, UnbuiltUnended};
@@ -56,7 +57,8 @@ pub fn slots_are_reached()
     ensures { SlotsAreReached }
 {}
 
-/// In a legal transcript page numbers are taken one after the other, by page files and failed writes.
+/// In a legal transcript page numbers are taken one after the other, by page files and failed
+/// writes.
 pub fn pages_in_turn()
     ensures { ArePagesInTurn }
 {}
@@ -127,8 +129,8 @@ pub fn queue_let_go()
     ensures { QueueLetGo }
 {}
 
-/// What a sweep leaves of entries, rows, items, queue, page files and order of use stands behind the
-/// drops, for the live blobs.
+/// What a sweep leaves of entries, rows, items, queue, page files and order of use stands behind
+/// the drops, for the live blobs.
 pub fn swept_stands()
     ensures { SweptStands }
 {}
@@ -144,8 +146,8 @@ pub fn listed_are_there()
     ensures { ListedAreThere }
 {}
 
-/// In a legal transcript an accepted line that builds adds its blob, and changes nothing else of what
-/// the contents stand for.
+/// In a legal transcript an accepted line that builds adds its blob, and changes nothing else of
+/// what the contents stand for.
 pub fn builds_add()
     ensures { BuildsAdd }
 {}

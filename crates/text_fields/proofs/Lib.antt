@@ -1,7 +1,9 @@
 pub mod Bytes
+pub mod Counts
 pub mod Each
 pub mod Faults
 pub mod Hex
+pub mod Keywords
 pub mod Numbers
 pub mod Outputs
 pub mod Rows

@@ -2,13 +2,13 @@
 use Rattle.std.proofs.Common.{◌≡◌, ℕ, suc, ◌⊎◌, List, [], ◌∷◌, ◌++◌, length, Result, Ok, Err, inl, inr, refl, sym, ap, ◌∙◌, subst, arith}
 use Rattle.std.proofs.lemmas.List.{append-nil, length-append}
 use Rattle.text_fields.specs.Kind.{Kind, bytes, content_type, some_bytes, Spells, IsFaultOf, IsFirstFault, IsRowFault, AllSpell}
-use Rattle.text_fields.specs.Reading.{IsReading, IsTaken, AreTaken}
+use Rattle.text_fields.specs.Reading.{IsReading, TakesField, TakesFields}
 use Rattle.text_fields.specs.declared.line_fault.LineFault.{LineFault}
 use Rattle.text_fields.specs.declared.line_fault.LineFault.TheVariants.{Memory}
 
 -- the text that was read is the first field
 pub taken_first : {A : Type 0} (kind : Kind) (Fits : A → Type 0) (spell : A → List ℕ) (text : List ℕ) (old new : List (List ℕ)) (r : Result A LineFault)
-    → old ≡ text ∷ new → IsReading (IsFaultOf kind) Fits spell text r → IsTaken kind Fits spell old new r
+    → old ≡ text ∷ new → IsReading (IsFaultOf kind) Fits spell text r → TakesField kind Fits spell old new r
 taken_first kind Fits spell text old new (Ok value) first is_read = (is_read.0, first ∙ ap (λ (t : List ℕ). t ∷ new) is_read.1)
 taken_first kind Fits spell text old new (Err fault) first (inl memory) = inl memory
 taken_first kind Fits spell text old new (Err fault) first (inr wrong) = inr (λ kinds. subst (IsFirstFault (kind ∷ kinds) fault) (sym first) (inl wrong))
@@ -38,7 +38,7 @@ length_spelled (kind ∷ kinds) (text ∷ texts) all = ap suc (length_spelled ki
 -- as many fields as there are kinds are a row
 pub row_read : {A : Type 0} (kinds : List Kind) (Fit : A → Type 0) (spell : A → List (List ℕ)) (count : ℕ) (old new : List (List ℕ)) (r : Result A LineFault)
     → length kinds ≡ count → ((values : A) → Fit values → AllSpell kinds (spell values)) → length old ≡ count
-    → AreTaken kinds Fit spell old new r → IsReading (IsRowFault kinds) Fit spell old r
+    → TakesFields kinds Fit spell old new r → IsReading (IsRowFault kinds) Fit spell old r
 row_read kinds Fit spell count old new (Ok values) counted spelled exact taken =
     let len = length_spelled kinds (spell values) (spelled values taken.0) in
     let none = nothing_behind (spell values) new (sym (ap length taken.1) ∙ exact ∙ sym counted ∙ sym len) in

@@ -3,6 +3,7 @@ use Rattle.std.specs.Prelude.{ℕ, ◌≡◌, ◌<◌, ◌≤◌, List, ◌++◌
 use Rattle.std.specs.Io.KnownBytes.{Appends}
 use Rattle.blob_words.specs.declared.fault.Failed.{Failed}
 use Rattle.blob_source.specs.Faults.{Rose}
+use Rattle.blob_source.specs.declared.sink.Sink.{Ghosts as Sink}
 
 -- a sink and the buffer in front of it: what the sink took, where it tells that, its count of faults, and the bytes in the buffer
 pub record Output : Type 0 where
@@ -40,6 +41,10 @@ abbrev pub IsStreamed : Option (List ℕ) → Option (List ℕ) → ℕ → ℕ 
 IsStreamed held held' faults faults' text (Ok done) = Appends held held' text × (faults ≤ faults')
 IsStreamed held held' faults faults' text (Err failed) = (n : ℕ) × (n < length text) × Appends held held' (take n text) × Rose faults faults' × (faults ≤ faults')
 
--- the same over a sink's members: what it took, where it tells that, and its count of faults
-abbrev pub IsPutTo : {K : Type 0} → (K → Option (List ℕ)) → (K → ℕ) → K → K → List ℕ → List ℕ → List ℕ → Result (Unit {0}) Failed → Type 0
-IsPutTo held faults old new ahead ahead' bytes result = IsPut (output (held old) (faults old) ahead) (output (held new) (faults new) ahead') bytes result
+-- the same of a call that is given a sink and a buffer: as they were, and as it left them
+abbrev pub IsPutTo : {K : Type 0} → Sink K → K → K → List ℕ → List ℕ → List ℕ → Result (Unit {0}) Failed → Type 0
+IsPutTo sink out out' ahead ahead' bytes result = IsPut (output (sink.held out) (sink.faults out) ahead) (output (sink.held out') (sink.faults out') ahead') bytes result
+
+-- the same of a call that is given the sink alone
+abbrev pub IsStreamedTo : {K : Type 0} → Sink K → K → K → List ℕ → Result (Unit {0}) Failed → Type 0
+IsStreamedTo sink out out' text result = IsStreamed (sink.held out) (sink.held out') (sink.faults out) (sink.faults out') text result

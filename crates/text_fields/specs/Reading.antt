@@ -27,19 +27,19 @@ IsExact IsFault Fits spell text (Ok value) = Fits value × (text ≡ spell value
 IsExact IsFault Fits spell text (Err fault) = IsFault fault text
 
 -- the same of the first of some fields, with the fields before and after the call
-abbrev pub IsTaken : {A : Type 0} → Kind → (A → Type 0) → (A → List ℕ) → List (List ℕ) → List (List ℕ) → Result A LineFault → Type 0
-IsTaken kind Fits spell old new (Ok value) = Fits value × (old ≡ spell value ∷ new)
-IsTaken kind Fits spell old new (Err fault) = (fault ≡ faults.Memory) ⊎ ((kinds : List Kind) → IsFirstFault (kind ∷ kinds) fault old)
+abbrev pub TakesField : {A : Type 0} → Kind → (A → Type 0) → (A → List ℕ) → List (List ℕ) → List (List ℕ) → Result A LineFault → Type 0
+TakesField kind Fits spell old new (Ok value) = Fits value × (old ≡ spell value ∷ new)
+TakesField kind Fits spell old new (Err fault) = (fault ≡ faults.Memory) ⊎ ((kinds : List Kind) → IsFirstFault (kind ∷ kinds) fault old)
 
 -- the same of the first few
-abbrev pub AreTaken : {A : Type 0} → List Kind → (A → Type 0) → (A → List (List ℕ)) → List (List ℕ) → List (List ℕ) → Result A LineFault → Type 0
-AreTaken kinds Fit spell old new (Ok values) = Fit values × (old ≡ spell values ++ new)
-AreTaken kinds Fit spell old new (Err fault) = (fault ≡ faults.Memory) ⊎ IsFirstFault kinds fault old
+abbrev pub TakesFields : {A : Type 0} → List Kind → (A → Type 0) → (A → List (List ℕ)) → List (List ℕ) → List (List ℕ) → Result A LineFault → Type 0
+TakesFields kinds Fit spell old new (Ok values) = Fit values × (old ≡ spell values ++ new)
+TakesFields kinds Fit spell old new (Err fault) = (fault ≡ faults.Memory) ⊎ IsFirstFault kinds fault old
 
 -- the text is no number of 64 bits with its sign
 abbrev pub IsSignedFault : LineFault → List ℕ → Type 0
 IsSignedFault fault text = ((z : ℤ) → FitsSigned w64 z → text ≢ signed_decimal z) × (fault ≡ faults.Number)
 
 -- digits that have no sign, and no zero in front of further digits
-abbrev pub is_plain : List ℕ → Bool
-is_plain text = not (slice_index text 0 == 43) && (not (slice_index text 0 == 48) || (length text == 1))
+abbrev pub is_plain_number : List ℕ → Bool
+is_plain_number text = not (slice_index text 0 == 43) && (not (slice_index text 0 == 48) || (length text == 1))

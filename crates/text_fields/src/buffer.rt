@@ -69,7 +69,7 @@ impl Buffer {
 
     /// Writes all that is in the buffer.
     pub fn flush<K: Sink>(&mut self, out: &mut K) -> Result<(), Failed>
-        ensures put { IsPutTo K.held K.faults out.old out.new self.old self.new [] result }
+        ensures put { IsPutTo K.Sink out.old out.new self.old self.new [] result }
         ensures empty { OnOk result (self.new ≡ []) }
     {
         match put_all(out, &self.bytes[..self.len]) {
@@ -84,7 +84,7 @@ impl Buffer {
     /// Puts some bytes behind those in the buffer, and writes what has no room in it. After
     /// `Failed` the sink has taken a front of them all that lacks some byte.
     pub fn put<K: Sink>(&mut self, out: &mut K, bytes: &[u8]) -> Result<(), Failed>
-        ensures { IsPutTo K.held K.faults out.old out.new self.old self.new bytes.now result }
+        ensures { IsPutTo K.Sink out.old out.new self.old self.new bytes.now result }
     {
         if bytes.len() > self.room() {
             return match self.flush(out) {
@@ -99,7 +99,7 @@ impl Buffer {
     // Writes whole pieces of the bytes, and keeps the rest. The buffer is empty.
     fn put_through<K: Sink>(&mut self, out: &mut K, bytes: &[u8]) -> Result<(), Failed>
         requires { self.old ≡ [] }
-        ensures { IsPutTo K.held K.faults out.old out.new self.old self.new bytes.now result }
+        ensures { IsPutTo K.Sink out.old out.new self.old self.new bytes.now result }
     {
         let mut rest = bytes;
         while rest.len() > SIZE {
@@ -117,8 +117,7 @@ impl Buffer {
     /// Puts the digits of at most 2,048 bytes, two for each, where they stay in the buffer.
     pub fn put_digits<K: Sink>(&mut self, out: &mut K, bytes: &[u8]) -> Result<(), Failed>
         requires { length bytes.now ≤ 2048 }
-        ensures { IsPutTo K.held K.faults out.old out.new self.old self.new
-            (encode_lower bytes.now) result }
+        ensures { IsPutTo K.Sink out.old out.new self.old self.new (encode_lower bytes.now) result }
     {
         if 2 * bytes.len() > self.room() {
             return match self.flush(out) {
@@ -135,7 +134,7 @@ impl Buffer {
 
     /// Puts one byte.
     pub fn put_byte<K: Sink>(&mut self, out: &mut K, byte: u8) -> Result<(), Failed>
-        ensures { IsPutTo K.held K.faults out.old out.new self.old self.new (byte ∷ []) result }
+        ensures { IsPutTo K.Sink out.old out.new self.old self.new (byte ∷ []) result }
     {
         self.put(out, &[byte])
     }

@@ -26,8 +26,7 @@ pub trait Spell {
 
     /// Puts the spelling. After `Failed` a front of it was written that lacks some byte.
     fn put<K: Sink>(&self, buffer: &mut Buffer, out: &mut K) -> Result<(), Failed>
-        ensures { IsPutTo K.held K.faults out.old out.new buffer.old buffer.new
-            (spell self.now) result };
+        ensures { IsPutTo K.Sink out.old out.new buffer.old buffer.new (spell self.now) result };
 }
 
 impl<A: Spell> Spell for &A {

@@ -3,7 +3,7 @@
 ghost use Rattle.std.specs.Prelude.{◌≡◌, ◌∷◌, [], option_map, MatchOption, length};
 ghost use Rattle.text_fields.specs.Kind.{IsFirstFault, IsRowFault};
 ghost use Rattle.std.specs.Prelude.{◌≤◌};
-ghost use Rattle.text_fields.specs.Reading.{split, split_rest, IsReading, IsTaken};
+ghost use Rattle.text_fields.specs.Reading.{split, split_rest, IsReading, TakesField};
 
 use crate::field::Field;
 use crate::line_fault::LineFault;
@@ -28,9 +28,11 @@ impl<'a> Model for Fields<'a> {
 
     ghost Value = { List (List ℕ) };
 
-    ghost view = { λ fields. split_rest fields.separator (option_map (λ text. text.now) fields.rest) };
+    ghost view = { λ fields. split_rest fields.separator
+        (option_map (λ text. text.now) fields.rest) };
 
-    ghost invariant = { λ fields. fields.left ≡ length (split_rest fields.separator (option_map (λ text. text.now) fields.rest)) };
+    ghost invariant = { λ fields. fields.left
+        ≡ length (split_rest fields.separator (option_map (λ text. text.now) fields.rest)) };
 }
 
 // Goes from separator to separator.
@@ -49,7 +51,8 @@ fn count_fields(separator: u8, text: &[u8]) -> usize
 
 // The text up to the first separator, and what stands behind it.
 fn cut(separator: u8, text: &[u8]) -> (&[u8], Option<&[u8]>)
-    ensures { split separator text.now ≡ result.0.now ∷ split_rest separator (option_map (λ rest. rest.now) result.1) }
+    ensures { split separator text.now ≡ result.0.now
+        ∷ split_rest separator (option_map (λ rest. rest.now) result.1) }
 {
     let Some(at) = find_byte(separator, text) else {
         return (text, None);
@@ -62,7 +65,8 @@ fn cut(separator: u8, text: &[u8]) -> (&[u8], Option<&[u8]>)
 // The same of a text of so many fields: the last one is all of it.
 fn cut_first(separator: u8, text: &[u8], count: usize) -> (&[u8], Option<&[u8]>)
     requires { count ≡ length (split separator text.now) }
-    ensures { split separator text.now ≡ result.0.now ∷ split_rest separator (option_map (λ rest. rest.now) result.1) }
+    ensures { split separator text.now ≡ result.0.now
+        ∷ split_rest separator (option_map (λ rest. rest.now) result.1) }
 {
     if count == 1 {
         return (text, None);
@@ -84,7 +88,8 @@ impl<'a> Fields<'a> {
 
     /// Takes the next field, where there is one.
     pub fn next(&mut self) -> Option<&'a [u8]>
-        ensures { MatchOption result ((self.old ≡ []) × (self.new ≡ [])) (λ text. self.old ≡ text.now ∷ self.new) }
+        ensures { MatchOption result ((self.old ≡ []) × (self.new ≡ []))
+            (λ text. self.old ≡ text.now ∷ self.new) }
     {
         match self.rest {
             Some(text) => {
@@ -107,7 +112,7 @@ impl<'a> Fields<'a> {
     /// Takes a value; there is a field.
     pub fn take<A: Field>(&mut self, alloc: Global) -> Result<A, LineFault>
         requires { 1 ≤ length self.old }
-        ensures { IsTaken A.kind A.Fits A.spell self.old self.new result }
+        ensures { TakesField A.kind A.Fits A.spell self.old self.new result }
     {
         match self.next() {
             Some(text) => A::read(alloc, text),

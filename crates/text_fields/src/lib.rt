@@ -2,9 +2,12 @@
 #![tactic(auto)]
 
 pub mod buffer;
+pub mod counted;
 pub mod field;
 pub mod fields;
-pub mod growing;
+mod growing;
+pub mod keyword;
+// Contracts above see the type.
 pub mod line_fault;
 pub mod literal;
 pub mod put;

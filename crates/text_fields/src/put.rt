@@ -17,7 +17,7 @@ pub fn put_field<A: Spell, K: Sink>(
     separator: u8,
     a: &A,
 ) -> Result<(), Failed>
-    ensures { IsPutTo K.held K.faults out.old out.new buffer.old buffer.new
+    ensures { IsPutTo K.Sink out.old out.new buffer.old buffer.new
         (separator ∷ A.spell a.now) result }
 {
     match buffer.put_byte(out, separator) {
@@ -33,7 +33,7 @@ pub fn put_each<A: Spell, K: Sink>(
     separator: u8,
     items: &[A],
 ) -> Result<(), Failed>
-    ensures { IsPutTo K.held K.faults out.old out.new buffer.old buffer.new
+    ensures { IsPutTo K.Sink out.old out.new buffer.old buffer.new
         (fields separator (map A.spell items.now)) result }
 {
     for item in items {
@@ -51,7 +51,7 @@ pub fn put_line<A: Spell, K: Sink>(
     out: &mut K,
     value: &A,
 ) -> Result<(), Failed>
-    ensures { IsPutTo K.held K.faults out.old out.new buffer.old buffer.new
+    ensures { IsPutTo K.Sink out.old out.new buffer.old buffer.new
         (A.spell value.now ++ 10 ∷ []) result }
 {
     match value.put(buffer, out) {
@@ -66,7 +66,7 @@ pub fn put_lines<A: Spell, K: Sink>(
     out: &mut K,
     items: &[A],
 ) -> Result<(), Failed>
-    ensures { IsPutTo K.held K.faults out.old out.new buffer.old buffer.new
+    ensures { IsPutTo K.Sink out.old out.new buffer.old buffer.new
         (flat_map (λ item. A.spell item ++ 10 ∷ []) items.now) result }
 {
     for item in items {

@@ -1,7 +1,7 @@
 //! The fields behind a word, all of them at once.
 
 ghost use Rattle.std.specs.Prelude.{◌≡◌, ◌≤◌, ◌∷◌, [], length, refl};
-ghost use Rattle.text_fields.specs.Reading.{AreTaken};
+ghost use Rattle.text_fields.specs.Reading.{TakesFields};
 
 use crate::field::Field;
 use crate::fields::Fields;
@@ -28,7 +28,7 @@ pub trait Row: Values + Sized {
     /// Takes the values that the first fields spell; there are so many.
     fn read(alloc: Global, fields: &mut Fields<'_>) -> Result<Self, LineFault>
         requires { COUNT ≤ length fields.old }
-        ensures { AreTaken kinds Fit Self.spell fields.old fields.new result };
+        ensures { TakesFields kinds Fit Self.spell fields.old fields.new result };
 
     ghost counted: { length kinds ≡ COUNT };
 
@@ -85,7 +85,10 @@ impl<A: Field + Drop, B: Field + Drop, C: Field> Row for (A, B, C) {
 
     ghost counted = { refl };
 
-    ghost spelled = { λ values fit. (A.spelled values.0 fit.0, (B.spelled values.1 fit.1, (C.spelled values.2 fit.2, tt))) };
+    ghost spelled = { λ values fit. (
+      A.spelled values.0 fit.0,
+      (B.spelled values.1 fit.1, (C.spelled values.2 fit.2, tt)),
+    ) };
 
     fn read(alloc: Global, fields: &mut Fields<'_>) -> Result<Self, LineFault> {
         let a = fields.take::<A>(alloc)?;
@@ -105,7 +108,10 @@ impl<A: Field + Drop, B: Field + Drop, C: Field + Drop, D: Field> Row for (A, B,
 
     ghost counted = { refl };
 
-    ghost spelled = { λ values fit. (A.spelled values.0 fit.0, (B.spelled values.1 fit.1, (C.spelled values.2 fit.2, (D.spelled values.3 fit.3, tt)))) };
+    ghost spelled = { λ values fit. (
+      A.spelled values.0 fit.0,
+      (B.spelled values.1 fit.1, (C.spelled values.2 fit.2, (D.spelled values.3 fit.3, tt))),
+    ) };
 
     fn read(alloc: Global, fields: &mut Fields<'_>) -> Result<Self, LineFault> {
         let a = fields.take::<A>(alloc)?;
@@ -122,11 +128,21 @@ impl<A: Field + Drop, B: Field + Drop, C: Field + Drop, D: Field + Drop, E: Fiel
 
     ghost kinds = { A.kind ∷ B.kind ∷ C.kind ∷ D.kind ∷ E.kind ∷ [] };
 
-    ghost Fit = { λ values. A.Fits values.0 × B.Fits values.1 × C.Fits values.2 × D.Fits values.3 × E.Fits values.4 };
+    ghost Fit = { λ values. A.Fits values.0 × B.Fits values.1 × C.Fits values.2 × D.Fits values.3
+        × E.Fits values.4 };
 
     ghost counted = { refl };
 
-    ghost spelled = { λ values fit. (A.spelled values.0 fit.0, (B.spelled values.1 fit.1, (C.spelled values.2 fit.2, (D.spelled values.3 fit.3, (E.spelled values.4 fit.4, tt))))) };
+    ghost spelled = { λ values fit. (
+      A.spelled values.0 fit.0,
+      (
+        B.spelled values.1 fit.1,
+        (
+          C.spelled values.2 fit.2,
+          (D.spelled values.3 fit.3, (E.spelled values.4 fit.4, tt)),
+        ),
+      ),
+    ) };
 
     fn read(alloc: Global, fields: &mut Fields<'_>) -> Result<Self, LineFault> {
         let a = fields.take::<A>(alloc)?;
@@ -149,11 +165,21 @@ impl<
 
     ghost kinds = { A.kind ∷ B.kind ∷ C.kind ∷ D.kind ∷ E.kind ∷ F.kind ∷ [] };
 
-    ghost Fit = { λ values. A.Fits values.0 × B.Fits values.1 × C.Fits values.2 × D.Fits values.3 × E.Fits values.4 × F.Fits values.5 };
+    ghost Fit = { λ values. A.Fits values.0 × B.Fits values.1 × C.Fits values.2 × D.Fits values.3
+        × E.Fits values.4 × F.Fits values.5 };
 
     ghost counted = { refl };
 
-    ghost spelled = { λ values fit. (A.spelled values.0 fit.0, (B.spelled values.1 fit.1, (C.spelled values.2 fit.2, (D.spelled values.3 fit.3, (E.spelled values.4 fit.4, (F.spelled values.5 fit.5, tt)))))) };
+    ghost spelled = { λ values fit. (
+      A.spelled values.0 fit.0,
+      (
+        B.spelled values.1 fit.1,
+        (
+          C.spelled values.2 fit.2,
+          (D.spelled values.3 fit.3, (E.spelled values.4 fit.4, (F.spelled values.5 fit.5, tt))),
+        ),
+      ),
+    ) };
 
     fn read(alloc: Global, fields: &mut Fields<'_>) -> Result<Self, LineFault> {
         let a = fields.take::<A>(alloc)?;
@@ -177,11 +203,27 @@ impl<
 
     ghost kinds = { A.kind ∷ B.kind ∷ C.kind ∷ D.kind ∷ E.kind ∷ F.kind ∷ G.kind ∷ [] };
 
-    ghost Fit = { λ values. A.Fits values.0 × B.Fits values.1 × C.Fits values.2 × D.Fits values.3 × E.Fits values.4 × F.Fits values.5 × G.Fits values.6 };
+    ghost Fit = { λ values. A.Fits values.0 × B.Fits values.1 × C.Fits values.2 × D.Fits values.3
+        × E.Fits values.4 × F.Fits values.5 × G.Fits values.6 };
 
     ghost counted = { refl };
 
-    ghost spelled = { λ values fit. (A.spelled values.0 fit.0, (B.spelled values.1 fit.1, (C.spelled values.2 fit.2, (D.spelled values.3 fit.3, (E.spelled values.4 fit.4, (F.spelled values.5 fit.5, (G.spelled values.6 fit.6, tt))))))) };
+    ghost spelled = { λ values fit. (
+      A.spelled values.0 fit.0,
+      (
+        B.spelled values.1 fit.1,
+        (
+          C.spelled values.2 fit.2,
+          (
+            D.spelled values.3 fit.3,
+            (
+              E.spelled values.4 fit.4,
+              (F.spelled values.5 fit.5, (G.spelled values.6 fit.6, tt)),
+            ),
+          ),
+        ),
+      ),
+    ) };
 
     fn read(alloc: Global, fields: &mut Fields<'_>) -> Result<Self, LineFault> {
         let a = fields.take::<A>(alloc)?;

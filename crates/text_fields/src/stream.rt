@@ -1,7 +1,7 @@
 //! Spellings, written to a sink as a stream or put at the end of bytes.
 
 ghost use Rattle.std.specs.Prelude.{◌≡◌, ◌++◌, [], OnOk, OnErr};
-ghost use Rattle.text_fields.specs.Output.{IsStreamed};
+ghost use Rattle.text_fields.specs.Output.{IsStreamedTo};
 
 use crate::buffer::Buffer;
 use crate::field::Spell;
@@ -20,8 +20,7 @@ pub fn stream_through<A: Spell, K: Sink>(
     out: &mut K,
 ) -> Result<(), Failed>
     requires { buffer.old ≡ [] }
-    ensures streamed { IsStreamed (K.held out.old) (K.held out.new)
-        (K.faults out.old) (K.faults out.new) (A.spell value.now) result }
+    ensures streamed { IsStreamedTo K.Sink out.old out.new (A.spell value.now) result }
     ensures empty { OnOk result (buffer.new ≡ []) }
 {
     match value.put(buffer, out) {
@@ -32,8 +31,7 @@ pub fn stream_through<A: Spell, K: Sink>(
 
 /// The same through a buffer of its own, on the stack.
 pub fn stream<A: Spell, K: Sink>(value: &A, out: &mut K) -> Result<(), Failed>
-    ensures { IsStreamed (K.held out.old) (K.held out.new)
-        (K.faults out.old) (K.faults out.new) (A.spell value.now) result }
+    ensures { IsStreamedTo K.Sink out.old out.new (A.spell value.now) result }
 {
     stream_through(value, &mut Buffer::new(), out)
 }

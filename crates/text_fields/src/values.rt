@@ -25,7 +25,7 @@ pub trait Values {
         out: &mut K,
         separator: u8,
     ) -> Result<(), Failed>
-        ensures { IsPutTo K.held K.faults out.old out.new buffer.old buffer.new
+        ensures { IsPutTo K.Sink out.old out.new buffer.old buffer.new
             (fields separator (spell self.now)) result };
 }
 
@@ -75,7 +75,8 @@ impl<A: Spell, B: Spell, C: Spell> Values for (A, B, C) {
 }
 
 impl<A: Spell, B: Spell, C: Spell, D: Spell> Values for (A, B, C, D) {
-    ghost spell = { λ values. A.spell values.0 ∷ B.spell values.1 ∷ C.spell values.2 ∷ D.spell values.3 ∷ [] };
+    ghost spell = { λ values. A.spell values.0 ∷ B.spell values.1 ∷ C.spell values.2
+        ∷ D.spell values.3 ∷ [] };
 
     fn put_all<K: Sink>(
         &self,
@@ -91,7 +92,8 @@ impl<A: Spell, B: Spell, C: Spell, D: Spell> Values for (A, B, C, D) {
 }
 
 impl<A: Spell, B: Spell, C: Spell, D: Spell, E: Spell> Values for (A, B, C, D, E) {
-    ghost spell = { λ values. A.spell values.0 ∷ B.spell values.1 ∷ C.spell values.2 ∷ D.spell values.3 ∷ E.spell values.4 ∷ [] };
+    ghost spell = { λ values. A.spell values.0 ∷ B.spell values.1 ∷ C.spell values.2
+        ∷ D.spell values.3 ∷ E.spell values.4 ∷ [] };
 
     fn put_all<K: Sink>(
         &self,
@@ -107,7 +109,8 @@ impl<A: Spell, B: Spell, C: Spell, D: Spell, E: Spell> Values for (A, B, C, D, E
 }
 
 impl<A: Spell, B: Spell, C: Spell, D: Spell, E: Spell, F: Spell> Values for (A, B, C, D, E, F) {
-    ghost spell = { λ values. A.spell values.0 ∷ B.spell values.1 ∷ C.spell values.2 ∷ D.spell values.3 ∷ E.spell values.4 ∷ F.spell values.5 ∷ [] };
+    ghost spell = { λ values. A.spell values.0 ∷ B.spell values.1 ∷ C.spell values.2
+        ∷ D.spell values.3 ∷ E.spell values.4 ∷ F.spell values.5 ∷ [] };
 
     fn put_all<K: Sink>(
         &self,
@@ -124,7 +127,8 @@ impl<A: Spell, B: Spell, C: Spell, D: Spell, E: Spell, F: Spell> Values for (A, 
 
 impl<A: Spell, B: Spell, C: Spell, D: Spell, E: Spell, F: Spell, G: Spell> Values
     for (A, B, C, D, E, F, G) {
-    ghost spell = { λ values. A.spell values.0 ∷ B.spell values.1 ∷ C.spell values.2 ∷ D.spell values.3 ∷ E.spell values.4 ∷ F.spell values.5 ∷ G.spell values.6 ∷ [] };
+    ghost spell = { λ values. A.spell values.0 ∷ B.spell values.1 ∷ C.spell values.2
+        ∷ D.spell values.3 ∷ E.spell values.4 ∷ F.spell values.5 ∷ G.spell values.6 ∷ [] };
 
     fn put_all<K: Sink>(
         &self,

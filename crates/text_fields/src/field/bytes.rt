@@ -61,8 +61,7 @@ fn read_hex(alloc: Global, text: &[u8]) -> Result<Octets, LineFault>
 }
 
 fn put_hex<K: Sink>(buffer: &mut Buffer, out: &mut K, bytes: &[u8]) -> Result<(), Failed>
-    ensures { IsPutTo K.held K.faults out.old out.new buffer.old buffer.new
-        (hex_text bytes.now) result }
+    ensures { IsPutTo K.Sink out.old out.new buffer.old buffer.new (hex_text bytes.now) result }
 {
     if bytes.is_empty() {
         return buffer.put_byte(out, b'-');
@@ -71,8 +70,7 @@ fn put_hex<K: Sink>(buffer: &mut Buffer, out: &mut K, bytes: &[u8]) -> Result<()
 }
 
 fn put_digits<K: Sink>(buffer: &mut Buffer, out: &mut K, bytes: &[u8]) -> Result<(), Failed>
-    ensures { IsPutTo K.held K.faults out.old out.new buffer.old buffer.new
-        (encode_lower bytes.now) result }
+    ensures { IsPutTo K.Sink out.old out.new buffer.old buffer.new (encode_lower bytes.now) result }
 {
     let mut rest = bytes;
     while !rest.is_empty() {

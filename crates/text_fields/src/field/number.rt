@@ -1,12 +1,13 @@
 //! Numbers in decimal digits.
 
-ghost use Rattle.std.specs.Prelude.{◌≡◌, ◌==◌, ◌&&◌, ◌||◌, ℕ, ◌^◌, ◌<◌, ◌≤◌, not, length, slice_index, decimal, refl, IfSome, FitsSigned};
+ghost use Rattle.std.specs.Prelude.{◌≡◌, ◌==◌, ◌&&◌, ◌||◌, ℕ, ◌^◌, ◌<◌, ◌≤◌, not, length};
+ghost use Rattle.std.specs.Prelude.{slice_index, decimal, refl, IfSome, FitsSigned};
 ghost use Rattle.std.specs.Fmt.{signed_decimal};
 ghost use Rattle.std.specs.Int.{w64};
 ghost use Rattle.text_fields.specs.Fields.{len_text, place_text};
 ghost use Rattle.text_fields.specs.Kind.{number_32, number_64, positive, len, place, IsFaultOf};
 ghost use Rattle.text_fields.specs.Output.{IsPutTo};
-ghost use Rattle.text_fields.specs.Reading.{is_plain, IsExact, IsSignedFault};
+ghost use Rattle.text_fields.specs.Reading.{is_plain_number, IsExact, IsSignedFault};
 
 use crate::buffer::Buffer;
 use crate::field::{Field, Spell};
@@ -21,8 +22,8 @@ use std::str;
 pub struct Positive(pub u64);
 
 // Whether digits have no sign, and no zero in front of further digits.
-fn is_plain(text: &[u8]) -> bool
-    ensures { result ≡ is_plain text.now }
+fn is_plain_number(text: &[u8]) -> bool
+    ensures { result ≡ is_plain_number text.now }
 {
     if text.is_empty() {
         return true;
@@ -33,7 +34,7 @@ fn is_plain(text: &[u8]) -> bool
 fn read_number(text: &[u8]) -> Result<u64, LineFault>
     ensures { IsExact (IsFaultOf number_64) (λ n. n < 2 ^ 64) decimal text.now result }
 {
-    if !is_plain(text) {
+    if !is_plain_number(text) {
         return Err(LineFault::Number);
     }
     let Ok(digits) = str::from_utf8(text) else {
@@ -74,7 +75,8 @@ fn read_positive(text: &[u8]) -> Result<u64, LineFault>
 }
 
 fn read_len(text: &[u8]) -> Result<Option<u64>, LineFault>
-    ensures { IsExact (IsFaultOf len) (λ value. IfSome value (λ n. n < 2 ^ 64)) len_text text.now result }
+    ensures { IsExact (IsFaultOf len)
+        (λ value. IfSome value (λ n. n < 2 ^ 64)) len_text text.now result }
 {
     if text == b"_".as_slice() {
         return Ok(None);
@@ -105,7 +107,8 @@ fn read_signed(text: &[u8]) -> Result<i64, LineFault>
 }
 
 fn read_place(text: &[u8]) -> Result<Option<i64>, LineFault>
-    ensures { IsExact (IsFaultOf place) (λ value. IfSome value (λ z. FitsSigned w64 z)) place_text text.now result }
+    ensures { IsExact (IsFaultOf place)
+        (λ value. IfSome value (λ z. FitsSigned w64 z)) place_text text.now result }
 {
     if text == b"_".as_slice() {
         return Ok(None);
@@ -117,16 +120,14 @@ fn read_place(text: &[u8]) -> Result<Option<i64>, LineFault>
 }
 
 fn put_number<K: Sink>(buffer: &mut Buffer, out: &mut K, number: u64) -> Result<(), Failed>
-    ensures { IsPutTo K.held K.faults out.old out.new buffer.old buffer.new
-        (decimal number) result }
+    ensures { IsPutTo K.Sink out.old out.new buffer.old buffer.new (decimal number) result }
 {
     let mut digits = itoa::Buffer::new();
     buffer.put(out, digits.format(number).as_bytes())
 }
 
 fn put_signed<K: Sink>(buffer: &mut Buffer, out: &mut K, number: i64) -> Result<(), Failed>
-    ensures { IsPutTo K.held K.faults out.old out.new buffer.old buffer.new
-        (signed_decimal number) result }
+    ensures { IsPutTo K.Sink out.old out.new buffer.old buffer.new (signed_decimal number) result }
 {
     let mut digits = itoa::Buffer::new();
     buffer.put(out, digits.format(number).as_bytes())

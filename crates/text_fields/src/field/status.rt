@@ -1,12 +1,13 @@
 //! Words of statuses and switches, which stand in answers.
 
-ghost use Rattle.std.specs.Prelude.{◌≡◌, ◌≢◌, true, MatchOption, refl};
-ghost use Rattle.blob_words.specs.declared.status.Status.{Status as AStatus};
+ghost use Rattle.std.specs.Prelude.{◌≡◌, true, refl};
+ghost use Rattle.text_fields.specs.Keyword.{IsWordOf};
 ghost use Rattle.text_fields.specs.Status.{status_word, is_told, is_broken, is_end, switch_word};
 ghost use Rattle.text_fields.specs.Kind.{broken, ending, status, switch};
 
 use crate::buffer::Buffer;
 use crate::field::{Field, Spell};
+use crate::keyword::{Keyword, find};
 use crate::line_fault::LineFault;
 use blob_source::Sink;
 use blob_words::{Failed, Status};
@@ -24,61 +25,45 @@ pub struct Ending(pub Status);
 #[derive(Clone, Copy, Debug, PartialEq, Eq)]
 pub struct Told(pub Status);
 
-fn status_text(status: Status) -> &'static [u8]
-    ensures { result.now ≡ status_word status }
-{
-    match status {
-        Status::InvalidArguments => b"invalid-construction-arguments",
-        Status::OutOfMemory => b"out-of-memory",
-        Status::FileWriteFailed => b"file-write-failed",
-        Status::SourceDied => b"source-died-in-transit",
-        Status::Dereferenced => b"dropped",
-        Status::ReferencedBlobBroken => b"referenced-blob-broken",
-        Status::ReferencedFileUnavailable => b"referenced-file-unavailable",
-        Status::Done => b"done",
-        Status::PendingQuota => b"pending-quota",
-        Status::PendingTransport => b"pending-transport",
-        Status::PendingReferencedBlobs => b"pending-referenced-blobs",
+/// All statuses.
+const STATUSES: [Status; 11] = [
+    Status::InvalidArguments,
+    Status::OutOfMemory,
+    Status::FileWriteFailed,
+    Status::SourceDied,
+    Status::Dereferenced,
+    Status::ReferencedBlobBroken,
+    Status::ReferencedFileUnavailable,
+    Status::Done,
+    Status::PendingQuota,
+    Status::PendingTransport,
+    Status::PendingReferencedBlobs,
+];
+
+impl Keyword for Status {
+    ghost text = { status_word };
+
+    fn text(self) -> &'static [u8] {
+        match self {
+            Status::InvalidArguments => b"invalid-construction-arguments",
+            Status::OutOfMemory => b"out-of-memory",
+            Status::FileWriteFailed => b"file-write-failed",
+            Status::SourceDied => b"source-died-in-transit",
+            Status::Dereferenced => b"dropped",
+            Status::ReferencedBlobBroken => b"referenced-blob-broken",
+            Status::ReferencedFileUnavailable => b"referenced-file-unavailable",
+            Status::Done => b"done",
+            Status::PendingQuota => b"pending-quota",
+            Status::PendingTransport => b"pending-transport",
+            Status::PendingReferencedBlobs => b"pending-referenced-blobs",
+        }
     }
 }
 
 fn read_status(text: &[u8]) -> Option<Status>
-    ensures { MatchOption result ((s : AStatus) → text.now ≢ status_word s) (λ s. text.now ≡ status_word s) }
+    ensures { IsWordOf status_word text.now result }
 {
-    if text == b"invalid-construction-arguments".as_slice() {
-        return Some(Status::InvalidArguments);
-    }
-    if text == b"out-of-memory".as_slice() {
-        return Some(Status::OutOfMemory);
-    }
-    if text == b"file-write-failed".as_slice() {
-        return Some(Status::FileWriteFailed);
-    }
-    if text == b"source-died-in-transit".as_slice() {
-        return Some(Status::SourceDied);
-    }
-    if text == b"dropped".as_slice() {
-        return Some(Status::Dereferenced);
-    }
-    if text == b"referenced-blob-broken".as_slice() {
-        return Some(Status::ReferencedBlobBroken);
-    }
-    if text == b"referenced-file-unavailable".as_slice() {
-        return Some(Status::ReferencedFileUnavailable);
-    }
-    if text == b"done".as_slice() {
-        return Some(Status::Done);
-    }
-    if text == b"pending-quota".as_slice() {
-        return Some(Status::PendingQuota);
-    }
-    if text == b"pending-transport".as_slice() {
-        return Some(Status::PendingTransport);
-    }
-    if text == b"pending-referenced-blobs".as_slice() {
-        return Some(Status::PendingReferencedBlobs);
-    }
-    None
+    find(&STATUSES, text)
 }
 
 fn is_broken(status: Status) -> bool
@@ -139,7 +124,7 @@ impl Spell for Broken {
     ghost spell = { λ value. status_word value.0 };
 
     fn put<K: Sink>(&self, buffer: &mut Buffer, out: &mut K) -> Result<(), Failed> {
-        buffer.put(out, status_text(self.0))
+        buffer.put(out, self.0.text())
     }
 }
 
@@ -167,7 +152,7 @@ impl Spell for Ending {
     ghost spell = { λ value. status_word value.0 };
 
     fn put<K: Sink>(&self, buffer: &mut Buffer, out: &mut K) -> Result<(), Failed> {
-        buffer.put(out, status_text(self.0))
+        buffer.put(out, self.0.text())
     }
 }
 
@@ -195,7 +180,7 @@ impl Spell for Told {
     ghost spell = { λ value. status_word value.0 };
 
     fn put<K: Sink>(&self, buffer: &mut Buffer, out: &mut K) -> Result<(), Failed> {
-        buffer.put(out, status_text(self.0))
+        buffer.put(out, self.0.text())
     }
 }
 
