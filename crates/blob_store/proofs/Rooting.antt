@@ -1,5 +1,5 @@
 -- Who has a handle on a blob has it stand, and what a change of handles makes of their number.
-use Rattle.std.proofs.Common.{◌≡◌, ℕ, ◌+◌, ◌<◌, ◌≤◌, ◌==◌, Bool, List, [], Option, Some, None, cond, refl, ap, ◌∙◌, arith}
+use Rattle.std.proofs.Common.{◌≡◌, ℕ, ◌+◌, ◌<◌, ◌≤◌, Bool, List, [], Option, Some, None, cond, refl, ap, ◌∙◌, arith}
 use Rattle.std.specs.Prelude.{is_some, sum_by, unwrap_or, IsSomeAnd}
 use Rattle.std.specs.Option.{option_map, option_map_or}
 use Rattle.std.specs.Ordering.{nat_cmp}
@@ -17,7 +17,7 @@ use Rattle.url_store.specs.declared.url.Url.{Url}
 use Rattle.blob_store.specs.declared.readers.OpenReader.{OpenReader}
 use Rattle.blob_store.specs.Roots.{handles_of, roots_at, roots_in}
 
-on_held : (name : ℕ) (held : Option Living)
+pub on_held : (name : ℕ) (held : Option Living)
     → count_on name (option_map_or (λ (one : Living). one.counts) held []) ≡ unwrap_or (option_map (λ (one : Living). count_on name one.counts) held) 0
 on_held name None = refl
 on_held name (Some one) = refl

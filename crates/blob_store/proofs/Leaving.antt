@@ -1,0 +1,147 @@
+-- What a renderer has goes, one thing after the other: the parts agree after each.
+use Rattle.std.proofs.Common.{◌≡◌, ℕ, ◌+◌, ◌-◌, ◌≤◌, ◌==◌, ◌&&◌, Bool, true, false, cond, List, [], ◌∷◌, map, Option, Some, None, refl, sym, ap, subst, ◌∙◌, arith}
+use Rattle.std.specs.Prelude.{bytes_eq, slice_get, sum_by}
+use Rattle.std.specs.Option.{option_map, option_map_or}
+use Rattle.std.specs.List.{list_any}
+use Rattle.std.specs.Ordering.{nat_cmp}
+use Rattle.std.specs.BTreeMap.{is_at}
+use Rattle.std.specs.Map.{remove_entry, values_of}
+use Rattle.std.proofs.lemmas.Bool.{eq-eqb, eqb-true}
+use Rattle.std.proofs.lemmas.Map.Entries.{sum_by-remove_entry}
+use Rattle.blob_entries.specs.Book.{Book, changed}
+use Rattle.blob_entries.specs.Changes.{held_less}
+use Rattle.renderer_table.specs.Counted.{origin_at, ChangesCount, Dies}
+use Rattle.renderer_table.specs.Counts.{count_on}
+use Rattle.renderer_table.specs.Table.{Table, count_of, living_of, was_spawned, with_counts}
+use Rattle.renderer_table.specs.declared.living.Living.{Living}
+use Rattle.url_store.specs.Changes.{GoesFrom}
+use Rattle.url_store.specs.Urls.{owned_by, url_at, without, without_first}
+use Rattle.url_store.specs.declared.url.Url.{Url}
+use Rattle.store_laws.specs.Roots.{AreRerooted}
+use Rattle.store_laws.specs.TableLaws.{ReaderGoesFrom}
+use Rattle.store_laws.proofs.Tables.{equal_bytes, same_bytes}
+use Rattle.blob_store.specs.declared.parts.Parts.{Parts}
+use Rattle.blob_store.specs.declared.readers.OpenReader.{OpenReader}
+use Rattle.blob_store.specs.Readers.{ClosesFrom}
+use Rattle.blob_store.specs.Roots.{handles_of, roots_at, roots_in}
+use Rattle.blob_store.specs.Seen.{reader_of}
+use Rattle.blob_store.specs.Whole.{Whole}
+use Rattle.blob_store.proofs.HeardTables.{goes_seen, open_said, open_seen}
+use Rattle.blob_store.proofs.Rerooted.{whole_same}
+use Rattle.blob_store.proofs.Rerooting.{born_still, whole_closed, whole_unnamed}
+use Rattle.blob_store.proofs.Rooting.{handles_moved, on_held, within_handles}
+
+abbrev Urls : Type 0
+Urls = List (List ℕ × Url)
+
+abbrev Open : Type 0
+Open = List (ℕ × OpenReader)
+
+-- ---- readers
+
+pub left_seen : (owner : ℕ) (reader : OpenReader) (old new : Open) → ClosesFrom owner reader old new
+    → ReaderGoesFrom owner (map reader_of old) (map reader_of new)
+left_seen owner reader old new from = record {
+  number = from.number;
+  reader = open_said from.number reader;
+  there = open_seen from.number old ∙ ap (option_map (open_said from.number)) from.there;
+  own = from.own;
+  goes = goes_seen from.number reader old new from.there from.closes;
+}
+
+pub whole_unread : (parts : Parts) (owner : ℕ) (reader : OpenReader) (readers : Open) → Whole parts → ClosesFrom owner reader parts.readers readers
+    → Whole (record parts { registry = changed parts.registry reader.blob held_less; readers = readers })
+whole_unread parts owner reader readers whole from = whole_closed parts from.number reader readers whole from.there from.closes
+
+-- ---- URLs
+
+found_others : (text other : List ℕ) (urls : Urls) → bytes_eq text other ≡ false → url_at text (without other urls) ≡ url_at text urls
+found_others text other [] apart = refl
+found_others text other (entry ∷ urls) apart = by (bytes_eq other entry.0) refl (found_others text other urls apart)
+  where
+    by : (b : Bool) → bytes_eq other entry.0 ≡ b → url_at text (without other urls) ≡ url_at text urls
+        → url_at text (cond b urls (entry ∷ without other urls)) ≡ cond (bytes_eq text entry.0) (Some entry.1) (url_at text urls)
+    by true at rest =
+        let same : bytes_eq text entry.0 ≡ false = subst (λ (one : List ℕ). bytes_eq text one ≡ false) (equal_bytes other entry.0 at) apart in
+        sym (ap (λ (b : Bool). cond {A = Option Url} b (Some entry.1) (url_at text urls)) same)
+    by false at rest = ap (λ (found : Option Url). cond {A = Option Url} (bytes_eq text entry.0) (Some entry.1) found) rest
+
+-- the URL that goes is the one that is told
+pub first_goes : (owner blob : ℕ) (old new : Urls) → Some blob ≡ option_map (λ (entry : List ℕ × Url). entry.1.blob) (slice_get (owned_by owner old) 0)
+    → new ≡ without_first owner old → (goes : GoesFrom owner blob old new) → new ≡ without goes.text old
+first_goes owner blob old new told is goes = by (slice_get (owned_by owner old) 0) told is
+  where
+    found : (entry : List ℕ × Url) → new ≡ without entry.0 old → (b : Bool) → bytes_eq goes.text entry.0 ≡ b → new ≡ without goes.text old
+    found entry at true same = at ∙ ap (λ (text : List ℕ). without text old) (sym (equal_bytes goes.text entry.0 same))
+    found entry at false apart =
+        let stays : url_at goes.text new ≡ Some goes.url =
+        ap (url_at goes.text) at ∙ found_others goes.text entry.0 old apart ∙ goes.there in
+        let gone : url_at goes.text new ≡ None =
+        goes.goes.each goes.text ∙ ap (λ (b : Bool). cond {A = Option Url} b None (url_at goes.text old)) (same_bytes goes.text) in
+        let both : None ≡ Some goes.url = sym gone ∙ stays in
+        absurd (cc both)
+
+    by : (first : Option (List ℕ × Url)) → Some blob ≡ option_map (λ (entry : List ℕ × Url). entry.1.blob) first
+        → new ≡ option_map_or (λ (entry : List ℕ × Url). without entry.0 old) first old → new ≡ without goes.text old
+    by None told at = absurd (cc told)
+    by (Some entry) told at = found entry at (bytes_eq goes.text entry.0) refl
+
+pub whole_unlinked : (parts : Parts) (owner blob : ℕ) (urls : Urls) → Whole parts
+    → Some blob ≡ option_map (λ (entry : List ℕ × Url). entry.1.blob) (slice_get (owned_by owner parts.urls) 0) → urls ≡ without_first owner parts.urls
+    → GoesFrom owner blob parts.urls urls → Whole (record parts { registry = changed parts.registry blob held_less; urls = urls })
+whole_unlinked parts owner blob urls whole told is goes =
+    subst (λ (name : ℕ). Whole (record parts { registry = changed parts.registry name held_less; urls = urls })) goes.leads
+    (whole_unnamed parts goes.text goes.url urls whole goes.there (first_goes owner blob parts.urls urls told is goes))
+
+-- ---- handles
+
+-- all handles of a renderer on a blob go
+pub whole_unheld : (parts : Parts) (book : Book) (id name count : ℕ) (one : Living) (counts : List (ℕ × ℕ)) (renderers : Table) → Whole parts
+    → AreRerooted parts.registry book
+    → ((other : ℕ) → roots_at book other ≡ cond (name == other) (roots_at parts.registry other - count) (roots_at parts.registry other))
+    → living_of id parts.renderers ≡ Some one → renderers ≡ with_counts id counts parts.renderers → count_of id name parts.renderers ≡ count
+    → ChangesCount (λ (n : ℕ). 0) id name parts.renderers renderers → Whole (record parts { registry = book; renderers = renderers })
+whole_unheld parts book id name count one counts renderers whole same roots there is counted changes =
+    whole_same parts book renderers parts.urls parts.readers whole same (born_still (λ (n : ℕ). 0) id name parts.renderers renderers whole.living changes)
+    (λ other. by other (name == other) refl (roots other) (left other) (handles_moved id parts.renderers renderers one there counts is other))
+    (λ other. few other (name == other) (roots other)) whole.readers whole.opened
+  where
+    left : (other : ℕ) → count_of id other renderers ≡ cond (name == other) 0 (count_of id other parts.renderers)
+    left other =
+        changes.counts id other ∙ ap (λ (b : Bool). cond (b && (name == other)) 0 (count_of id other parts.renderers)) (eq-eqb id id refl)
+
+    by : (other : ℕ) (b : Bool) → (name == other) ≡ b → roots_at book other ≡ cond b (roots_at parts.registry other - count) (roots_at parts.registry other)
+        → count_of id other renderers ≡ cond b 0 (count_of id other parts.renderers)
+        → handles_of other renderers + count_of id other parts.renderers ≡ handles_of other parts.renderers + count_of id other renderers
+        → roots_at book other ≡ roots_in renderers parts.urls parts.readers other
+    by other true at root none moved =
+        let had = subst (λ (n : ℕ). count_of id n parts.renderers ≡ count) (eqb-true name other at) counted in
+        omega (arith, root, none, moved, had, whole.roots other, within_handles id other parts.renderers)
+    by other false at root still moved = omega (arith, root, still, moved, whole.roots other)
+
+    few : (other : ℕ) (b : Bool) → roots_at book other ≡ cond b (roots_at parts.registry other - count) (roots_at parts.registry other)
+        → roots_at book other ≤ parts.lines
+    few other true root = omega (arith, root, whole.few other)
+    few other false root = omega (arith, root, whole.few other)
+
+-- a renderer without handles goes
+pub whole_dead : (parts : Parts) (id : ℕ) (renderers : Table) → Whole parts
+    → renderers ≡ record parts.renderers { living = remove_entry (is_at (nat_cmp id)) parts.renderers.living } → Dies id parts.renderers renderers
+    → Whole (record parts { renderers = renderers })
+whole_dead parts id renderers whole is dies =
+    whole_same parts parts.registry renderers parts.urls parts.readers whole (record { names = refl; entries = refl }) living
+    (λ name. let same = handles name in omega (arith, same, whole.roots name)) whole.few whole.readers whole.opened
+  where
+    handles : (name : ℕ) → handles_of name renderers ≡ handles_of name parts.renderers
+    handles name =
+        let weight : Living → ℕ = λ (one : Living). count_on name one.counts in
+        let sums = sum_by-remove_entry weight (is_at (nat_cmp id)) parts.renderers.living in
+        let now = ap (λ (table : Table). sum_by weight (values_of table.living)) is in
+        omega (arith, sums, now, on_held name (living_of id parts.renderers), dies.empty name)
+
+    living : (number : ℕ) → was_spawned number renderers ≡ false → origin_at number renderers ≡ None
+    living number fresh = dies.origins number ∙ by (id == number)
+      where
+        by : (b : Bool) → cond b None (origin_at number parts.renderers) ≡ None
+        by true = refl
+        by false = whole.living number (ap (λ (list : List ℕ). list_any (is_at (nat_cmp number)) list) (sym dies.spawned) ∙ fresh)

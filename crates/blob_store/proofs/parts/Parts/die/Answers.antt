@@ -1,0 +1,18 @@
+-- A renderer that isn't alive, and one whose things went.
+use Rattle.std.proofs.Common.{◌∙◌, sym}
+use Rattle.session_script.specs.declared.event.Event.TheVariants as events
+use Rattle.blob_model.specs.History.{history_from, start}
+use Rattle.blob_model.specs.Live.{is_live}
+use Rattle.store_laws.proofs.TableRefusals.{die_known}
+use Rattle.blob_store.specs.Says.{Says}
+use Rattle.blob_store.specs.Seen.{parts_of}
+use Rattle.blob_store.proofs.Heard.{heard_refused}
+use Rattle.blob_store.proofs.parts.Parts.die.Goals as goal
+
+pub returns-in-Some-clause-says : goal.returns-in-Some-clause-says
+unfolding Says
+returns-in-Some-clause-says c told table s groups legal still stands =
+    heard_refused s groups c.args.self.now told table legal stands (events.Die c.args.renderer) c.in-Some.why
+    (die_known s (history_from start groups) (is_live s.limits.page (history_from start groups)) (parts_of c.args.self.now) told table stands.between
+    c.args.renderer
+    ∙ sym c.in-Some.ensures)
