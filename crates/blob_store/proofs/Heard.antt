@@ -73,6 +73,12 @@ module _ (s : Session) (groups : List Group) (parts : Parts) (told : Option (Lis
     stands = lines_stand.refusing event why s h (is_live s.limits.page h) (parts_of parts) told table unmarked stands.between;
   }
 
+  -- where a part was handed back as it was
+  pub refused_still : (event : Event) (why : Refusal) (new : Parts) → new ≡ parts → refusal s h event ≡ Some why
+      → IsHeard s h event (answers.Refused why ∷ []) (scene new told table)
+  refused_still event why new same due =
+      subst (λ (one : Parts). IsHeard s h event (answers.Refused why ∷ []) (scene one told table)) (sym same) (heard_refused event why due)
+
   pub heard_spawn : (renderer : RendererId) (origin : List ℕ) (renderers : Table) → has_ended h ≡ false → spawn_fault renderer.0 parts.renderers ≡ None
       → Spawns renderer.0 origin parts.renderers renderers
       → IsHeard s h (events.Spawn renderer origin) (answers.Good ∷ []) (scene (record parts { renderers = renderers }) told table)

@@ -1,11 +1,12 @@
 -- A line was heard that changes tables and roots: `pass`, `revoke`, `file`, `gone`, `cancel` and `die`.
-use Rattle.std.proofs.Common.{◌≡◌, ℕ, ◌-◌, ◌+◌, ◌==◌, Bool, true, false, List, [], ◌∷◌, map, length, Option, Some, None, cond, refl, sym, ap, subst, ◌∙◌, inl, arith}
-use Rattle.std.specs.Prelude.{is_some, nat_eq, option_and_then, IfSome, IsSomeAnd, if◌then◌else◌}
+use Rattle.std.proofs.Common.{◌≡◌, ℕ, ◌-◌, ◌+◌, ◌==◌, ◌<◌, ◌≤◌, Bool, true, false, List, [], ◌∷◌, map, length, Option, Some, None, cond, refl, sym, ap, subst, ◌∙◌, inl, arith}
+use Rattle.std.specs.Prelude.{is_some, nat_eq, option_and_then, IfSome, IsSome, IsSomeAnd, if◌then◌else◌}
 use Rattle.std.specs.Option.{option_map}
 use Rattle.std.specs.BTreeMap.{is_at}
 use Rattle.std.specs.Cmp.{unsigned_tied}
 use Rattle.std.specs.Ordering.{nat_cmp}
 use Rattle.std.proofs.lemmas.Bool.{eqb-true}
+use Rattle.blob_words.specs.declared.counted.Counted.TheVariants as counts
 use Rattle.blob_words.specs.declared.number.ReaderId.{ReaderId}
 use Rattle.blob_words.specs.declared.number.RendererId.{RendererId}
 use Rattle.session_script.specs.declared.event.Event.TheVariants as events
@@ -20,17 +21,19 @@ use Rattle.file_table.specs.Changes.{Notes}
 use Rattle.file_table.specs.Files.{fault_of, note_of, state_of}
 use Rattle.file_table.specs.declared.file_note.FileNote.{FileNote}
 use Rattle.page_disk.specs.declared.change.Change.{Change}
-use Rattle.renderer_table.specs.Counted.{ChangesCount}
+use Rattle.renderer_table.specs.Counted.{origin_at, ChangesCount}
 use Rattle.renderer_table.specs.Table.{Table, pass_fault}
-use Rattle.url_store.specs.Changes.{Goes}
-use Rattle.url_store.specs.Urls.{own_url, url_at}
+use Rattle.url_store.specs.Changes.{Comes, Goes}
+use Rattle.url_store.specs.Urls.{own_url, url_at, IsBlobUrl}
 use Rattle.url_store.specs.declared.url.Url.{Url}
 use Rattle.blob_model.specs.History.{History, heard, history_from, start}
 use Rattle.blob_model.specs.Legal.{IsLegalFrom}
+use Rattle.blob_model.specs.Entries.{is_url_of}
 use Rattle.blob_model.specs.Live.{is_live}
 use Rattle.blob_model.specs.Readers.{OpenReader as ReaderSaid}
+use Rattle.blob_model.specs.Renderers.{origin_of}
 use Rattle.blob_model.specs.Session.{Session}
-use Rattle.store_laws.specs.LineLaws.{counted, AreUnmarked}
+use Rattle.store_laws.specs.LineLaws.{counted, handle_refusal, AreUnmarked}
 use Rattle.store_laws.specs.Roots.{rootless, AreRerooted}
 use Rattle.store_laws.specs.Rows.{Row as RowSaid}
 use Rattle.store_laws.specs.Stands.{Between, Stands}
@@ -41,6 +44,8 @@ use Rattle.store_laws.proofs.Rerooted.{changed_rerooted}
 use Rattle.store_laws.proofs.TableLines.{table_lines_stand}
 use Rattle.store_laws.proofs.TableRefusals.{cancel_known, die_known, file_known, file_refusal, gone_accepted, gone_refused, owned_so, pass_known, pass_refusal, revoke_known}
 use Rattle.store_laws.proofs.Unmarked.{none_marked}
+use Rattle.store_laws.proofs.UrlForms.{url_forms_agree}
+use Rattle.store_laws.proofs.UrlRefusals.{origin_known, url_accepted, url_formless, url_full, url_taken}
 use Rattle.blob_store.specs.declared.parts.Parts.{Parts}
 use Rattle.blob_store.specs.declared.readers.OpenReader.{OpenReader}
 use Rattle.blob_store.specs.declared.row.Row.{Row}
@@ -170,6 +175,58 @@ module _ (s : Session) (groups : List Group) (parts : Parts) (told : Option (Lis
         (changed_rerooted (λ (n : ℕ). n + 1) parts.registry name)
         (table_lines_stand.passing s h (is_live s.limits.page h) (parts_of parts) told table unmarked stands.between renderer to name renderers changes));
   }
+
+  pub heard_url : (renderer : RendererId) (name : ℕ) (text origin : List ℕ) (book : Book) (urls : List (List ℕ × Url))
+      → handle_refusal renderer name parts.renderers ≡ None → origin_at renderer.0 parts.renderers ≡ Some origin → IsBlobUrl origin text
+      → url_at text parts.urls ≡ None → length parts.urls < 16384 → book ≡ changed parts.registry name held_more
+      → Comes text (record { blob = name; owner = renderer; origin = origin }) parts.urls urls
+      → IsHeard s h (events.Url renderer name text) (answers.Good ∷ []) (scene (record parts { registry = book; urls = urls }) told table)
+  heard_url renderer name text origin book urls due at url free few is comes =
+      let known = origin_known s h (is_live s.limits.page h) (parts_of parts) told table stands.between renderer.0 origin at in
+      let form = url_forms_agree.formed (origin_of h renderer.0) text (subst (λ (one : List ℕ). IsBlobUrl one text) known url) in
+      record {
+        is_own = own_accepted s h (events.Url renderer name text) (answers.Good ∷ [])
+            (url_accepted s h (is_live s.limits.page h) (parts_of parts) told table stands.between renderer name text due form free few) (inl refl);
+        stands = subst (λ (one : Book). Between s (heard h (events.Url renderer name text) answers.Good) (is_live s.limits.page h)
+            (counted (parts_of (record parts { registry = one; urls = urls }))) told table) (sym is)
+            (seen (heard h (events.Url renderer name text) answers.Good) (changed parts.registry name held_more) parts.renderers urls parts.files
+            parts.readers (changed_rerooted (λ (n : ℕ). n + 1) parts.registry name)
+            (table_lines_stand.making_urls s h (is_live s.limits.page h) (parts_of parts) told table unmarked stands.between renderer name text urls free
+            (subst (λ (one : List ℕ). Comes text (record { blob = name; owner = renderer; origin = one }) parts.urls urls) known comes)));
+      }
+
+  -- why a URL can't be, in the order of the tests
+  pub heard_formless : (renderer : RendererId) (name : ℕ) (text origin : List ℕ) → handle_refusal renderer name parts.renderers ≡ None
+      → origin_at renderer.0 parts.renderers ≡ Some origin → ¬ (IsBlobUrl origin text)
+      → IsHeard s h (events.Url renderer name text) (answers.Refused refusals.UrlForm ∷ []) (scene parts told table)
+  heard_formless renderer name text origin due at none =
+      let known = origin_known s h (is_live s.limits.page h) (parts_of parts) told table stands.between renderer.0 origin at in
+      heard_refused s groups parts told table legal stands (events.Url renderer name text) refusals.UrlForm
+      (url_formless s h (is_live s.limits.page h) (parts_of parts) told table stands.between renderer name text due
+      (by known (is_url_of (origin_of h renderer.0) text) refl))
+    where
+      by : origin ≡ origin_of h renderer.0 → (b : Bool) → is_url_of (origin_of h renderer.0) text ≡ b → b ≡ false
+      by known true is = absurd (none (subst (λ (one : List ℕ). IsBlobUrl one text) (sym known) (url_forms_agree.named (origin_of h renderer.0) text is)))
+      by known false is = refl
+
+  module _ (renderer : RendererId) (name : ℕ) (text origin : List ℕ) (due : handle_refusal renderer name parts.renderers ≡ None)
+      (at : origin_at renderer.0 parts.renderers ≡ Some origin) (url : IsBlobUrl origin text) where
+    form : is_url_of (origin_of h renderer.0) text ≡ true
+    form =
+        url_forms_agree.formed (origin_of h renderer.0) text (subst (λ (one : List ℕ). IsBlobUrl one text)
+        (origin_known s h (is_live s.limits.page h) (parts_of parts) told table stands.between renderer.0 origin at) url)
+
+    pub heard_taken : IsSome (url_at text parts.urls)
+        → IsHeard s h (events.Url renderer name text) (answers.Refused refusals.UrlTaken ∷ []) (scene parts told table)
+    heard_taken is =
+        heard_refused s groups parts told table legal stands (events.Url renderer name text) refusals.UrlTaken
+        (url_taken s h (is_live s.limits.page h) (parts_of parts) told table stands.between renderer name text due form is)
+
+    pub heard_full : url_at text parts.urls ≡ None → 16384 ≤ length parts.urls
+        → IsHeard s h (events.Url renderer name text) (answers.Refused (refusals.TooMany counts.Urls) ∷ []) (scene parts told table)
+    heard_full free many =
+        heard_refused s groups parts told table legal stands (events.Url renderer name text) (refusals.TooMany counts.Urls)
+        (url_full s h (is_live s.limits.page h) (parts_of parts) told table stands.between renderer name text due form free many)
 
   pub heard_revoke : (renderer : RendererId) (text : List ℕ) (url : Url) (book : Book) (urls : List (List ℕ × Url))
       → renderer_refusal renderer parts.renderers ≡ None → own_url renderer.0 text parts.urls ≡ Some url → book ≡ changed parts.registry url.blob held_less

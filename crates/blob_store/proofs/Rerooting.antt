@@ -1,15 +1,20 @@
 -- The parts agree after a blob has a root more or some fewer, as the tables say.
-use Rattle.std.proofs.Common.{◌≡◌, ℕ, zero, suc, ◌+◌, ◌-◌, ◌<◌, ◌≤◌, ◌==◌, ◌&&◌, ◌^◌, Bool, true, false, cond, List, Option, Some, None, length, refl, sym, ap, subst, ◌∙◌, arith}
+use Rattle.std.proofs.Common.{◌≡◌, ℕ, zero, suc, ◌+◌, ◌-◌, ◌<◌, ◌≤◌, ◌==◌, ◌&&◌, ◌^◌, Bool, true, false, cond, List, [], ◌∷◌, Option, Some, None, length, refl, sym, ap, subst, ◌∙◌, arith}
 use Rattle.std.specs.Prelude.{is_none, unwrap_or, if◌then◌else◌, IfSome, IsSomeAnd}
 use Rattle.std.specs.Option.{option_map, option_map_or}
 use Rattle.std.specs.List.{list_any}
-use Rattle.std.specs.Ordering.{nat_cmp}
+use Rattle.std.specs.Cmp.Lexicographic.{slice_cmp}
+use Rattle.std.specs.Ordering.{is_eq, match_ordering, nat_cmp}
+use Rattle.std.specs.declared.cmp.Ordering.{Ordering}
+use Rattle.std.specs.declared.cmp.Ordering.TheVariants.{Less, Equal, Greater}
 use Rattle.std.specs.Str.{bytes_eq}
 use Rattle.std.specs.BTreeMap.{is_at}
 use Rattle.std.proofs.lemmas.Bool.{eq-eqb, eqb-true}
 use Rattle.std.proofs.lemmas.Map.Entries.{sum_by-remove_entry}
+use Rattle.std.proofs.lemmas.Map.Text.{is_eq-slice_cmp}
 use Rattle.blob_words.specs.declared.bounds.TheConstants.{MOST_READERS}
 use Rattle.blob_words.specs.declared.number.RendererId.{RendererId}
+use Rattle.answer_text.specs.declared.refusal.Refusal.TheVariants as refusals
 use Rattle.blob_entries.specs.Book.{Book, changed, entry_of}
 use Rattle.blob_entries.specs.Changes.{held_less, held_more, with_roots}
 use Rattle.blob_entries.specs.declared.entry.Entry.{Entry}
@@ -19,8 +24,9 @@ use Rattle.renderer_table.specs.Counts.{one_more}
 use Rattle.renderer_table.specs.Table.{Table, count_of, counts_of, living_of, pass_fault, was_spawned, with_counts}
 use Rattle.renderer_table.specs.declared.fault.PassFault.TheVariants as passes
 use Rattle.renderer_table.specs.declared.living.Living.{Living}
-use Rattle.url_store.specs.Urls.{url_at, without}
+use Rattle.url_store.specs.Urls.{url_at, with_url, without}
 use Rattle.url_store.specs.declared.url.Url.{Url}
+use Rattle.store_laws.specs.LineLaws.{handle_refusal}
 use Rattle.blob_store.specs.declared.parts.Parts.{Parts}
 use Rattle.blob_store.specs.declared.readers.OpenReader.{OpenReader}
 use Rattle.blob_store.specs.Readers.{reader_at, Closes}
@@ -222,6 +228,64 @@ whole_passed parts giver taker name renderers whole due is changes =
         → roots_in renderers parts.urls parts.readers other ≡ roots_in parts.renderers parts.urls parts.readers other + cond b 1 0
     by other true counted moved = omega (arith, counted, moved)
     by other false counted moved = omega (arith, counted, moved)
+
+-- ---- a URL that comes
+
+one_url : (other : ℕ) (entry : List ℕ × Url) (urls : Urls) → urls_of other (entry ∷ urls) ≡ leads other entry.1 + urls_of other urls
+one_url other entry urls = refl
+
+urls_with : (text : List ℕ) (url : Url) (urls : Urls) → url_at text urls ≡ None → (other : ℕ)
+    → urls_of other (with_url text url urls) ≡ urls_of other urls + leads other url
+urls_with text url [] free other = omega arith
+urls_with text url (entry ∷ urls) free other =
+    by (slice_cmp nat_cmp text entry.0) (is_eq-slice_cmp text entry.0) (bytes_eq text entry.0) refl free (urls_with text url urls)
+  where
+    first : urls_of other ((text, url) ∷ entry ∷ urls) ≡ urls_of other (entry ∷ urls) + leads other url
+    first = let one = one_url other (text, url) (entry ∷ urls) in omega (arith, one)
+
+    later : urls_of other (with_url text url urls) ≡ urls_of other urls + leads other url
+        → urls_of other (entry ∷ with_url text url urls) ≡ urls_of other (entry ∷ urls) + leads other url
+    later more =
+        let one = one_url other entry (with_url text url urls) in
+        let old = one_url other entry urls in
+        omega (arith, more, one, old)
+
+    by : (r : Ordering) → is_eq r ≡ bytes_eq text entry.0 → (b : Bool) → bytes_eq text entry.0 ≡ b → cond b (Some entry.1) (url_at text urls) ≡ None
+        → (url_at text urls ≡ None → (n : ℕ) → urls_of n (with_url text url urls) ≡ urls_of n urls + leads n url)
+        → urls_of other (match_ordering r ((text, url) ∷ entry ∷ urls) ((entry.0, url) ∷ urls) (entry ∷ with_url text url urls))
+        ≡ urls_of other (entry ∷ urls) + leads other url
+    by r is true at free rest = absurd (cc free)
+    by Less is false at free rest = first
+    by Equal is false at free rest = absurd (cc (is ∙ at))
+    by Greater is false at free rest = later (rest free other)
+
+-- who has a handle on a blob gives it a root
+pub handle_roots : (parts : Parts) (renderer : RendererId) (name : ℕ) → Whole parts → handle_refusal renderer name parts.renderers ≡ None
+    → 0 < roots_at parts.registry name
+handle_roots parts renderer name whole due =
+    let some = handled (is_none (living_of renderer.0 parts.renderers)) (count_of renderer.0 name parts.renderers) due in
+    omega (arith, some, within_handles renderer.0 name parts.renderers, whole.roots name)
+  where
+    above : (n : ℕ) (b : Bool) → (n == 0) ≡ b → cond b (Some (refusals.NoHandle renderer name)) None ≡ None → 0 < n
+    above n true at due = absurd (cc due)
+    above zero false at due = absurd (cc at)
+    above (suc n) false at due = omega arith
+
+    handled : (b : Bool) (n : ℕ)
+        → (if b then Some (refusals.NoRenderer renderer) else if n == 0 then Some (refusals.NoHandle renderer name) else None) ≡ None → 0 < n
+    handled true n due = absurd (cc due)
+    handled false n due = above n (n == 0) refl due
+
+pub whole_named : (parts : Parts) (renderer : RendererId) (name : ℕ) (text origin : List ℕ) (urls : Urls) → Whole parts
+    → handle_refusal renderer name parts.renderers ≡ None → url_at text parts.urls ≡ None
+    → urls ≡ with_url text (record { blob = name; owner = renderer; origin = origin }) parts.urls
+    → Whole (with_line (record parts { registry = changed parts.registry name held_more; urls = urls }))
+whole_named parts renderer name text origin urls whole due free is =
+    whole_held parts parts.renderers urls parts.readers name whole whole.living whole.readers whole.opened (handle_roots parts renderer name whole due)
+    (λ other.
+    let more = urls_with text (record { blob = name; owner = renderer; origin = origin }) parts.urls free other in
+    let same = ap (λ (list : Urls). urls_of other list) is in
+    omega (arith, more, same))
 
 -- ---- URLs and readers that go
 

@@ -11,3 +11,4 @@ mod refusals;
 mod revoke;
 mod spawn;
 mod stat;
+mod url;

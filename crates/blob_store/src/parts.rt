@@ -52,12 +52,9 @@ impl Parts {
     ghost use Rattle.blob_store.specs.New.{IsNew};
     ghost use Rattle.blob_store.specs.Whole.{IsWhole};
 
-    /// The parts of a store that has heard nothing.
-    #[tactic(auto, unfolding(crate::specs::Whole::IsWhole))]
-    pub fn new(alloc: Global, limits: Limits, version: Version) -> Result<Parts, NoMemory>
-        ensures empty { IfOk result (IsNew limits version) }
-        ensures whole { IfOk result IsWhole }
-        ensures begins { IfOk result (Begins limits version) }
+    // Each part new.
+    fn empty(alloc: Global, limits: Limits, version: Version) -> Result<Parts, NoMemory>
+        ensures { IfOk result (IsNew limits version) }
     {
         let registry = Registry::new(alloc)?;
         let shares = Shares::new(alloc)?;
@@ -87,5 +84,15 @@ impl Parts {
             renderers,
             readers: Readers::new(alloc),
         })
+    }
+
+    /// The parts of a store that has heard nothing.
+    pub fn new(alloc: Global, limits: Limits, version: Version) -> Result<Parts, NoMemory>
+        ensures empty { IfOk result (IsNew limits version) }
+        ensures whole { IfOk result IsWhole }
+        ensures begins { IfOk result (Begins limits version) }
+    {
+        let parts = Parts::empty(alloc, limits, version)?;
+        Ok(parts)
     }
 }

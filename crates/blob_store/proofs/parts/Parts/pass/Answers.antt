@@ -11,7 +11,7 @@ use Rattle.store_laws.proofs.TableRefusals.{pass_known, pass_refusal}
 use Rattle.blob_store.specs.Says.{Says}
 use Rattle.blob_store.specs.Seen.{parts_of}
 use Rattle.blob_store.specs.Whole.{with_line, IsWhole, Whole}
-use Rattle.blob_store.proofs.Heard.{heard_refused}
+use Rattle.blob_store.proofs.Heard.{refused_still}
 use Rattle.blob_store.proofs.HeardTables.{heard_pass}
 use Rattle.blob_store.proofs.Holding.{whole_counted}
 use Rattle.blob_store.proofs.Rerooting.{count_below, giver_roots, stands_below, whole_passed}
@@ -56,17 +56,21 @@ returns-in-Err-NoHandle-clause-whole c =
 pub returns-in-Err-NoRenderer-clause-says : goal.returns-in-Err-NoRenderer-clause-says
 unfolding Says
 returns-in-Err-NoRenderer-clause-says c told table s groups legal still stands =
-    heard_refused s groups c.args.self.now told table legal stands (events.Pass c.args.renderer c.args.to c.args.name)
+    refused_still s groups c.args.self.now told table legal stands (events.Pass c.args.renderer c.args.to c.args.name)
     (refusals.NoRenderer c.in-Err-NoRenderer.other)
+    (record c.args.self.now { renderers = c.pass.new.self })
+    (ap (λ (one : Table). record c.args.self.now { renderers = one }) (rw c.in-Err-NoRenderer.field-0-is at c.in-Err-NoRenderer.ensures.fault).0)
     (pass_known s (history_from start groups) (is_live s.limits.page (history_from start groups)) (parts_of c.args.self.now) told table stands.between
     c.args.renderer c.args.to c.args.name
-    ∙ ap (option_map (pass_refusal c.args.renderer c.args.name)) c.in-Err-NoRenderer.ensures.fault.1)
+    ∙ ap (option_map (pass_refusal c.args.renderer c.args.name)) (rw c.in-Err-NoRenderer.field-0-is at c.in-Err-NoRenderer.ensures.fault).1)
 
 pub returns-in-Err-NoHandle-clause-says : goal.returns-in-Err-NoHandle-clause-says
 unfolding Says
 returns-in-Err-NoHandle-clause-says c told table s groups legal still stands =
-    heard_refused s groups c.args.self.now told table legal stands (events.Pass c.args.renderer c.args.to c.args.name)
+    refused_still s groups c.args.self.now told table legal stands (events.Pass c.args.renderer c.args.to c.args.name)
     (refusals.NoHandle c.args.renderer c.args.name)
+    (record c.args.self.now { renderers = c.pass.new.self })
+    (ap (λ (one : Table). record c.args.self.now { renderers = one }) (rw c.in-Err-NoHandle.field-0-is at c.in-Err-NoHandle.ensures.fault).0)
     (pass_known s (history_from start groups) (is_live s.limits.page (history_from start groups)) (parts_of c.args.self.now) told table stands.between
     c.args.renderer c.args.to c.args.name
-    ∙ ap (option_map (pass_refusal c.args.renderer c.args.name)) c.in-Err-NoHandle.ensures.fault.1)
+    ∙ ap (option_map (pass_refusal c.args.renderer c.args.name)) (rw c.in-Err-NoHandle.field-0-is at c.in-Err-NoHandle.ensures.fault).1)
