@@ -281,12 +281,6 @@ module _ (s : Session) (groups : List Group) (parts : Parts) (told : Option (Lis
     stands = table_lines_stand.forgetting s h (is_live s.limits.page h) (parts_of parts) told table unmarked stands.between name note files there notes;
   }
 
-  pub heard_not_gone : (name : List ℕ) → state_of name parts.files ≡ None
-      → IsHeard s h (events.Gone name) (answers.Refused refusals.NoFile ∷ []) (scene parts told table)
-  heard_not_gone name none =
-      heard_refused s groups parts told table legal stands (events.Gone name) refusals.NoFile
-      (gone_refused s h (is_live s.limits.page h) (parts_of parts) told table stands.between name none)
-
   pub heard_cancel : (renderer : RendererId) (number : ReaderId) (reader : OpenReader) (book : Book) (readers : List (ℕ × OpenReader))
       → reader_refusal renderer number parts.renderers (map reader_of parts.readers) ≡ None → reader_at number.0 parts.readers ≡ Some reader
       → book ≡ changed parts.registry reader.blob held_less → Closes number.0 parts.readers readers

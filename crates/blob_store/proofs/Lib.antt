@@ -17,3 +17,4 @@ pub mod Rerooting
 pub mod HeardTables
 pub mod Rerooted
 pub mod Leaving
+pub mod Refusing

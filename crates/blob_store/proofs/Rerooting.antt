@@ -12,6 +12,8 @@ use Rattle.std.specs.BTreeMap.{is_at}
 use Rattle.std.proofs.lemmas.Bool.{eq-eqb, eqb-true}
 use Rattle.std.proofs.lemmas.Map.Entries.{sum_by-remove_entry}
 use Rattle.std.proofs.lemmas.Map.Text.{is_eq-slice_cmp}
+use Rattle.std.proofs.lemmas.List.Sums.{sum_by-cons}
+use Rattle.std.specs.Map.{values_of}
 use Rattle.blob_words.specs.declared.bounds.TheConstants.{MOST_READERS}
 use Rattle.blob_words.specs.declared.number.RendererId.{RendererId}
 use Rattle.answer_text.specs.declared.refusal.Refusal.TheVariants as refusals
@@ -232,7 +234,7 @@ whole_passed parts giver taker name renderers whole due is changes =
 -- ---- a URL that comes
 
 one_url : (other : ℕ) (entry : List ℕ × Url) (urls : Urls) → urls_of other (entry ∷ urls) ≡ leads other entry.1 + urls_of other urls
-one_url other entry urls = refl
+one_url other entry urls = sum_by-cons (leads other) entry.1 (values_of urls)
 
 urls_with : (text : List ℕ) (url : Url) (urls : Urls) → url_at text urls ≡ None → (other : ℕ)
     → urls_of other (with_url text url urls) ≡ urls_of other urls + leads other url

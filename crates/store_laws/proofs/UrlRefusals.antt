@@ -53,7 +53,7 @@ handle_left renderer name None n rest due = absurd (cc due)
 handle_left renderer name (Some one) zero rest due = absurd (cc due)
 handle_left renderer name (Some one) (suc n) rest due =
     ap (λ (b : Bool). first_that ((false, refusals.NoRenderer renderer) ∷ (not b, refusals.NoHandle renderer name) ∷ rest))
-    (sym (lt-ltb 0 (suc n) (omega arith)))
+    (lt-ltb 0 (suc n) (omega arith))
 
 -- the tests on a URL itself
 abbrev url_cases : Bool → Bool → ℕ → List (Bool × Refusal)
