@@ -73,11 +73,15 @@ module _ (s : Session) (groups : List Group) (parts : Parts) (told : Option (Lis
     stands = lines_stand.refusing event why s h (is_live s.limits.page h) (parts_of parts) told table unmarked stands.between;
   }
 
-  -- where a part was handed back as it was
+  -- a part was handed back as it was
+  pub heard_still : (event : Event) (own : List Answer) (new : Parts) → new ≡ parts → IsHeard s h event own (scene parts told table)
+      → IsHeard s h event own (scene new told table)
+  heard_still event own new same was = subst (λ (one : Parts). IsHeard s h event own (scene one told table)) (sym same) was
+
   pub refused_still : (event : Event) (why : Refusal) (new : Parts) → new ≡ parts → refusal s h event ≡ Some why
       → IsHeard s h event (answers.Refused why ∷ []) (scene new told table)
   refused_still event why new same due =
-      subst (λ (one : Parts). IsHeard s h event (answers.Refused why ∷ []) (scene one told table)) (sym same) (heard_refused event why due)
+      heard_still event (answers.Refused why ∷ []) new same (heard_refused event why due)
 
   pub heard_spawn : (renderer : RendererId) (origin : List ℕ) (renderers : Table) → has_ended h ≡ false → spawn_fault renderer.0 parts.renderers ≡ None
       → Spawns renderer.0 origin parts.renderers renderers

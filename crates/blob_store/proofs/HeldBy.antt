@@ -1,6 +1,7 @@
 -- What stands under the name of a blob on which a renderer has a handle.
-use Rattle.std.proofs.Common.{◌≡◌, ℕ, zero, suc, ◌<◌, ◌==◌, Option, Some, None, refl, subst, arith}
-use Rattle.std.specs.Prelude.{is_none, option_and_then, if◌then◌else◌, IsSome, IsSomeAnd}
+use Rattle.std.proofs.Common.{◌≡◌, ℕ, zero, suc, ◌<◌, ◌==◌, Option, Some, None, Bor, refl, ap, subst, ◌∙◌, arith}
+use Rattle.std.specs.Prelude.{is_none, is_some, option_and_then, if◌then◌else◌, IsSome, IsSomeAnd}
+use Rattle.std.specs.Option.{option_copied}
 use Rattle.blob_words.specs.declared.number.RendererId.{RendererId}
 use Rattle.answer_text.specs.declared.refusal.Refusal.TheVariants as refusals
 use Rattle.blob_entries.specs.Book.{Book, entry_at, entry_of}
@@ -34,3 +35,13 @@ module _ (P : Entry → Type 0) (book : Book) (name : ℕ) (stands : IsSomeAnd (
       by : (held : Option Entry) → IsSomeAnd held P → IsSome held
       by None is = absurd is
       by (Some entry) is = refl
+
+-- what is handed out is there where what it was copied from is
+pub copied_there : (result : Option (Bor Entry)) (found : Option Entry) → option_copied result ≡ found → IsSome found → IsSome result
+copied_there None found same is = absurd (cc (ap (λ (held : Option Entry). is_some held) same ∙ is))
+copied_there (Some held) found same is = refl
+
+-- what something is said of is there
+pub known_so : {X : Type 0} (P : X → Type 0) (found : Option X) → IsSomeAnd found P → (x : X) × (found ≡ Some x) × P x
+known_so P None is = absurd is
+known_so P (Some x) is = (x, refl, is)

@@ -16,7 +16,6 @@ use Rattle.std.proofs.lemmas.List.Sums.{sum_by-cons}
 use Rattle.std.specs.Map.{values_of}
 use Rattle.blob_words.specs.declared.bounds.TheConstants.{MOST_READERS}
 use Rattle.blob_words.specs.declared.number.RendererId.{RendererId}
-use Rattle.answer_text.specs.declared.refusal.Refusal.TheVariants as refusals
 use Rattle.blob_entries.specs.Book.{Book, changed, entry_of}
 use Rattle.blob_entries.specs.Changes.{held_less, held_more, with_roots}
 use Rattle.blob_entries.specs.declared.entry.Entry.{Entry}
@@ -35,6 +34,7 @@ use Rattle.blob_store.specs.Readers.{reader_at, Closes}
 use Rattle.blob_store.specs.Roots.{handles_of, leads, roots_at, roots_in, urls_of}
 use Rattle.blob_store.specs.Whole.{with_line, IsOpen, Whole}
 use Rattle.blob_store.proofs.Changed.{entry_changed}
+use Rattle.blob_store.proofs.HeldBy.{has_handle}
 use Rattle.blob_store.proofs.Holding.{more_reroots, open_still, whole_rerooted, Reroots}
 use Rattle.blob_store.proofs.Rooting.{handles_moved, within_handles}
 
@@ -265,18 +265,8 @@ urls_with text url (entry ∷ urls) free other =
 pub handle_roots : (parts : Parts) (renderer : RendererId) (name : ℕ) → Whole parts → handle_refusal renderer name parts.renderers ≡ None
     → 0 < roots_at parts.registry name
 handle_roots parts renderer name whole due =
-    let some = handled (is_none (living_of renderer.0 parts.renderers)) (count_of renderer.0 name parts.renderers) due in
+    let some = has_handle renderer name parts.renderers due in
     omega (arith, some, within_handles renderer.0 name parts.renderers, whole.roots name)
-  where
-    above : (n : ℕ) (b : Bool) → (n == 0) ≡ b → cond b (Some (refusals.NoHandle renderer name)) None ≡ None → 0 < n
-    above n true at due = absurd (cc due)
-    above zero false at due = absurd (cc at)
-    above (suc n) false at due = omega arith
-
-    handled : (b : Bool) (n : ℕ)
-        → (if b then Some (refusals.NoRenderer renderer) else if n == 0 then Some (refusals.NoHandle renderer name) else None) ≡ None → 0 < n
-    handled true n due = absurd (cc due)
-    handled false n due = above n (n == 0) refl due
 
 pub whole_named : (parts : Parts) (renderer : RendererId) (name : ℕ) (text origin : List ℕ) (urls : Urls) → Whole parts
     → handle_refusal renderer name parts.renderers ≡ None → url_at text parts.urls ≡ None

@@ -50,7 +50,7 @@ impl Parts {
     #[tactic(auto, unfolding(crate::specs::Whole::IsWhole))]
     pub fn stat(&self, renderer: RendererId, name: BlobName) -> Result<Answer, NoMemory>
         requires { IsWhole self.now }
-        ensures says { IfOk result (λ answer. (told : Option (List Change)) (table : Table)
+        ensures { IfOk result (λ answer. (told : Option (List Change)) (table : Table)
             → Says (events.Stat renderer name) (answer ∷ [])
             (scene self.now told table) (scene self.now told table)) }
     {
