@@ -1,6 +1,6 @@
 -- What a renderer has goes, one thing after the other: the parts agree after each.
-use Rattle.std.proofs.Common.{◌≡◌, ℕ, ◌+◌, ◌-◌, ◌≤◌, ◌==◌, ◌&&◌, Bool, true, false, cond, List, [], ◌∷◌, map, Option, Some, None, refl, sym, ap, subst, ◌∙◌, arith}
-use Rattle.std.specs.Prelude.{bytes_eq, slice_get, sum_by}
+use Rattle.std.proofs.Common.{◌≡◌, ℕ, ◌+◌, ◌-◌, ◌<◌, ◌≤◌, ◌==◌, ◌&&◌, Bool, true, cond, List, [], ◌∷◌, false, length, map, Option, Some, None, refl, sym, ap, subst, ◌∙◌, arith}
+use Rattle.std.specs.Prelude.{bytes_eq, is_some, slice_get, sum_by, IsSomeAnd}
 use Rattle.std.specs.Option.{option_map, option_map_or}
 use Rattle.std.specs.List.{list_any}
 use Rattle.std.specs.Ordering.{nat_cmp}
@@ -8,27 +8,30 @@ use Rattle.std.specs.BTreeMap.{is_at}
 use Rattle.std.specs.Map.{remove_entry, values_of}
 use Rattle.std.proofs.lemmas.Bool.{eq-eqb, eqb-true}
 use Rattle.std.proofs.lemmas.Map.Entries.{sum_by-remove_entry}
-use Rattle.blob_entries.specs.Book.{Book, changed}
+use Rattle.blob_entries.specs.Book.{Book, changed, entry_of}
 use Rattle.blob_entries.specs.Changes.{held_less}
+use Rattle.blob_entries.specs.declared.entry.Entry.{Entry}
 use Rattle.renderer_table.specs.Counted.{origin_at, ChangesCount, Dies}
 use Rattle.renderer_table.specs.Counts.{count_on}
 use Rattle.renderer_table.specs.Table.{Table, count_of, living_of, was_spawned, with_counts}
 use Rattle.renderer_table.specs.declared.living.Living.{Living}
 use Rattle.url_store.specs.Changes.{GoesFrom}
-use Rattle.url_store.specs.Urls.{owned_by, url_at, without, without_first}
+use Rattle.url_store.specs.Urls.{own_url, owned_by, url_at, without, without_first}
 use Rattle.url_store.specs.declared.url.Url.{Url}
 use Rattle.store_laws.specs.Roots.{AreRerooted}
-use Rattle.store_laws.specs.TableLaws.{ReaderGoesFrom}
+use Rattle.blob_model.specs.Readers.{OpenReader as ReaderSaid}
+use Rattle.store_laws.specs.TableLaws.{open_at, ReaderGoesFrom, ReadersGo, ReadersLeave, UrlsGo, UrlsLeave}
+use Rattle.store_laws.proofs.Rerooted.{changed_rerooted}
 use Rattle.store_laws.proofs.Tables.{equal_bytes, same_bytes}
 use Rattle.blob_store.specs.declared.parts.Parts.{Parts}
 use Rattle.blob_store.specs.declared.readers.OpenReader.{OpenReader}
-use Rattle.blob_store.specs.Readers.{ClosesFrom}
+use Rattle.blob_store.specs.Readers.{is_own, reader_at, ClosesFrom}
 use Rattle.blob_store.specs.Roots.{handles_of, roots_at, roots_in}
 use Rattle.blob_store.specs.Seen.{reader_of}
 use Rattle.blob_store.specs.Whole.{Whole}
 use Rattle.blob_store.proofs.HeardTables.{goes_seen, open_said, open_seen}
 use Rattle.blob_store.proofs.Rerooted.{whole_same}
-use Rattle.blob_store.proofs.Rerooting.{born_still, whole_closed, whole_unnamed}
+use Rattle.blob_store.proofs.Rerooting.{born_still, reader_roots, roots_fewer, stands_rooted, url_roots, whole_closed, whole_unnamed}
 use Rattle.blob_store.proofs.Rooting.{handles_moved, on_held, within_handles}
 
 abbrev Urls : Type 0
@@ -37,7 +40,58 @@ Urls = List (List ℕ × Url)
 abbrev Open : Type 0
 Open = List (ℕ × OpenReader)
 
+-- other roots, and then others
+pub rerooted_more : (old next new : Book) → AreRerooted old next → AreRerooted next new → AreRerooted old new
+rerooted_more old next new first second = record { names = second.names ∙ first.names; entries = second.entries ∙ first.entries }
+
+pub rerooted_by : (old book new : Book) (name : ℕ) → AreRerooted old book → new ≡ changed book name held_less → AreRerooted old new
+rerooted_by old book new name first is =
+    rerooted_more old book new first (subst (λ (one : Book). AreRerooted book one) (sym is) (changed_rerooted (λ (n : ℕ). n - 1) book name))
+
+-- one root fewer, when some went
+pub roots_by : (old book new : Book) (name count : ℕ)
+    → ((other : ℕ) → roots_at book other ≡ cond (name == other) (roots_at old other - count) (roots_at old other))
+    → new ≡ changed book name held_less
+    → (other : ℕ) → roots_at new other ≡ cond (name == other) (roots_at old other - (count + 1)) (roots_at old other)
+roots_by old book new name count roots is other =
+    ap (λ (one : Book). roots_at one other) is ∙ roots_fewer book name 1 other ∙ by (name == other) (roots other)
+  where
+    by : (b : Bool) → roots_at book other ≡ cond b (roots_at old other - count) (roots_at old other)
+        → cond b (roots_at book other - 1) (roots_at book other) ≡ cond b (roots_at old other - (count + 1)) (roots_at old other)
+    by true root = omega (arith, root)
+    by false root = root
+
 -- ---- readers
+
+-- a reader that went makes them fewer
+pub fewer_open : (owner : ℕ) (reader : OpenReader) (old new : Open) → ClosesFrom owner reader old new → length new < length old
+fewer_open owner reader old new from =
+    let many = from.closes.many in
+    let one = ap (λ (held : Option OpenReader). cond {A = ℕ} (is_some held) 1 0) from.there in
+    omega (arith, many, one)
+
+pub held_open : (parts : Parts) (owner : ℕ) (reader : OpenReader) (readers : Open) → Whole parts → ClosesFrom owner reader parts.readers readers
+    → IsSomeAnd (entry_of parts.registry reader.blob) (λ (entry : Entry). 0 < entry.roots)
+held_open parts owner reader readers whole from =
+    stands_rooted parts.registry reader.blob (reader_roots parts from.number reader readers whole from.there from.closes)
+
+-- none of a renderer's is left
+pub none_open : (owner : ℕ) (readers : Open) → ((number : ℕ) → is_own owner (reader_at number readers) ≡ false) → (number : ℕ)
+    → option_map_or (λ (reader : ReaderSaid). reader.owner == owner) (open_at number (map reader_of readers)) false ≡ false
+none_open owner readers none number =
+    ap (λ (found : Option ReaderSaid). option_map_or (λ (reader : ReaderSaid). reader.owner == owner) found false) (open_seen number readers)
+    ∙ by (reader_at number readers) (none number)
+  where
+    by : (held : Option OpenReader) → is_own owner held ≡ false
+        → option_map_or (λ (reader : ReaderSaid). reader.owner == owner) (option_map (open_said number) held) false ≡ false
+    by None is = refl
+    by (Some reader) is = is
+
+pub readers_leave : (owner : ℕ) (first old new : Open) → ReadersGo owner (map reader_of first) (map reader_of old) → new ≡ old
+    → ((number : ℕ) → is_own owner (reader_at number old) ≡ false) → ReadersLeave owner (map reader_of first) (map reader_of new)
+readers_leave owner first old new went same none =
+    subst (λ (readers : Open). ReadersLeave owner (map reader_of first) (map reader_of readers)) (sym same)
+    (record { went = went; none_left = none_open owner old none })
 
 pub left_seen : (owner : ℕ) (reader : OpenReader) (old new : Open) → ClosesFrom owner reader old new
     → ReaderGoesFrom owner (map reader_of old) (map reader_of new)
@@ -85,6 +139,18 @@ first_goes owner blob old new told is goes = by (slice_get (owned_by owner old) 
         → new ≡ option_map_or (λ (entry : List ℕ × Url). without entry.0 old) first old → new ≡ without goes.text old
     by None told at = absurd (cc told)
     by (Some entry) told at = found entry at (bytes_eq goes.text entry.0) refl
+
+-- the blob of a URL that goes has a root
+pub held_named : (parts : Parts) (owner blob : ℕ) (urls : Urls) → Whole parts → GoesFrom owner blob parts.urls urls
+    → IsSomeAnd (entry_of parts.registry blob) (λ (entry : Entry). 0 < entry.roots)
+held_named parts owner blob urls whole goes =
+    subst (λ (name : ℕ). IsSomeAnd (entry_of parts.registry name) (λ (entry : Entry). 0 < entry.roots)) goes.leads
+    (stands_rooted parts.registry goes.url.blob (url_roots parts goes.text goes.url whole goes.there))
+
+pub urls_leave : (owner : ℕ) (first old new : Urls) → UrlsGo owner first old → new ≡ old → ((text : List ℕ) → own_url owner text old ≡ None)
+    → UrlsLeave owner first new
+urls_leave owner first old new went same none =
+    subst (λ (urls : Urls). UrlsLeave owner first urls) (sym same) (record { went = went; none_left = none })
 
 pub whole_unlinked : (parts : Parts) (owner blob : ℕ) (urls : Urls) → Whole parts
     → Some blob ≡ option_map (λ (entry : List ℕ × Url). entry.1.blob) (slice_get (owned_by owner parts.urls) 0) → urls ≡ without_first owner parts.urls

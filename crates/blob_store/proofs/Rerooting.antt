@@ -87,6 +87,27 @@ roots_more book name other has =
     by true (Some entry) some = refl
     by false held some = refl
 
+-- ---- some roots fewer
+
+-- an entry with so many roots fewer
+abbrev pub fewer : ℕ → Entry → Entry
+fewer k entry = with_roots (entry.roots - k) entry
+
+fewer_reroots : (k : ℕ) → Reroots (fewer k)
+fewer_reroots k = record { views = λ entry. refl; bytes = λ entry. refl; recipe = λ entry. refl; size = λ entry. refl; status = λ entry. refl }
+
+pub roots_fewer : (book : Book) (name k other : ℕ)
+    → roots_at (changed book name (fewer k)) other ≡ cond (name == other) (roots_at book other - k) (roots_at book other)
+roots_fewer book name k other =
+    ap (λ (held : Option Entry). option_map_or (λ (entry : Entry). entry.roots) held 0) (entry_changed book name other (fewer k))
+    ∙ by (name == other) (entry_of book other)
+  where
+    by : (b : Bool) (held : Option Entry) → option_map_or (λ (entry : Entry). entry.roots) (cond b (option_map (fewer k) held) held) 0
+        ≡ cond b (option_map_or (λ (entry : Entry). entry.roots) held 0 - k) (option_map_or (λ (entry : Entry). entry.roots) held 0)
+    by true None = omega arith
+    by true (Some entry) = refl
+    by false held = refl
+
 open_changed : (change : Entry → Entry) → Reroots change → (book : Book) (name : ℕ) (readers : Open) → AreOpen book readers
     → AreOpen (changed book name change) readers
 open_changed change reroots book name readers are number = by (reader_at number readers) (are number)
@@ -123,39 +144,21 @@ module _ (parts : Parts) (renderers : Table) (urls : Urls) (readers : Open) (nam
       few_by other true is few = omega (arith, is, few)
       few_by other false is few = omega (arith, is, few)
 
-  -- ---- some roots fewer
+  -- some roots fewer
   module _ (k : ℕ) where
-    abbrev pub fewer : Entry → Entry
-    fewer entry = with_roots (entry.roots - k) entry
-
-    fewer_reroots : Reroots fewer
-    fewer_reroots = record { views = λ entry. refl; bytes = λ entry. refl; recipe = λ entry. refl; size = λ entry. refl; status = λ entry. refl }
-
-    roots_fewer : (other : ℕ)
-        → roots_at (changed parts.registry name fewer) other ≡ cond (name == other) (roots_at parts.registry other - k) (roots_at parts.registry other)
-    roots_fewer other =
-        ap (λ (held : Option Entry). option_map_or (λ (entry : Entry). entry.roots) held 0) (entry_changed parts.registry name other fewer)
-        ∙ by (name == other) (entry_of parts.registry other)
-      where
-        by : (b : Bool) (held : Option Entry) → option_map_or (λ (entry : Entry). entry.roots) (cond b (option_map fewer held) held) 0
-            ≡ cond b (option_map_or (λ (entry : Entry). entry.roots) held 0 - k) (option_map_or (λ (entry : Entry). entry.roots) held 0)
-        by true None = omega arith
-        by true (Some entry) = refl
-        by false held = refl
-
     pub whole_let_go : ((other : ℕ)
         → roots_in renderers urls readers other + cond (name == other) k 0 ≡ roots_in parts.renderers parts.urls parts.readers other)
         → Whole (record parts {
-          registry = changed parts.registry name fewer;
+          registry = changed parts.registry name (fewer k);
           renderers = renderers;
           urls = urls;
           readers = readers;
         })
     whole_let_go less =
-        whole_rerooted fewer fewer_reroots parts renderers urls readers parts.lines name whole living
-        (λ other. roots_fewer other ∙ root_by other (name == other) (whole.roots other) (less other))
-        (λ other. let is = roots_fewer other in few_by other (name == other) is (whole.few other))
-        (open_changed fewer fewer_reroots parts.registry name readers are) opened
+        whole_rerooted (fewer k) (fewer_reroots k) parts renderers urls readers parts.lines name whole living
+        (λ other. roots_fewer parts.registry name k other ∙ root_by other (name == other) (whole.roots other) (less other))
+        (λ other. let is = roots_fewer parts.registry name k other in few_by other (name == other) is (whole.few other))
+        (open_changed (fewer k) (fewer_reroots k) parts.registry name readers are) opened
       where
         root_by : (other : ℕ) (b : Bool) → roots_at parts.registry other ≡ roots_in parts.renderers parts.urls parts.readers other
             → roots_in renderers urls readers other + cond b k 0 ≡ roots_in parts.renderers parts.urls parts.readers other
@@ -164,8 +167,8 @@ module _ (parts : Parts) (renderers : Table) (urls : Urls) (readers : Open) (nam
         root_by other false had is = omega (arith, had, is)
 
         few_by : (other : ℕ) (b : Bool)
-            → roots_at (changed parts.registry name fewer) other ≡ cond b (roots_at parts.registry other - k) (roots_at parts.registry other)
-            → roots_at parts.registry other ≤ parts.lines → roots_at (changed parts.registry name fewer) other ≤ parts.lines
+            → roots_at (changed parts.registry name (fewer k)) other ≡ cond b (roots_at parts.registry other - k) (roots_at parts.registry other)
+            → roots_at parts.registry other ≤ parts.lines → roots_at (changed parts.registry name (fewer k)) other ≤ parts.lines
         few_by other true is few = omega (arith, is, few)
         few_by other false is few = omega (arith, is, few)
 

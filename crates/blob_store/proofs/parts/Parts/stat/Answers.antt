@@ -22,6 +22,6 @@ pub returns : goal.returns
 unfolding Says
 returns c told table s groups legal still stands =
     subst (λ (kind : List ℕ). IsHeard s (history_from start groups) (events.Stat c.args.renderer c.args.name)
-    (answers.Told c.args.name c.entry_held-entry.result.now.size kind c.entry_held-entry.result.now.status ∷ []) (scene c.args.self.now told table)) (sym c.in-Ok.ensures)
+    (answers.Told c.args.name c.entry_held-entry.result.now.size kind c.entry_held-entry.result.now.status ∷ []) (scene c.args.self.now told table)) (sym (c.in-Ok.ensures ∙ c.as_slice.ensures))
     (heard_stat s groups c.args.self.now told table legal stands c.args.renderer c.args.name c.entry_held-entry.result.now (sym c.handle_refusal.ensures ∙ c.in_default.is)
     (sym c.entry_held-entry.ensures))
