@@ -1,6 +1,6 @@
 -- What a renderer has goes, one thing after the other: the parts agree after each.
-use Rattle.std.proofs.Common.{◌≡◌, ℕ, ◌+◌, ◌-◌, ◌<◌, ◌≤◌, ◌==◌, ◌&&◌, Bool, true, cond, List, [], ◌∷◌, false, length, map, Option, Some, None, refl, sym, ap, subst, ◌∙◌, arith}
-use Rattle.std.specs.Prelude.{bytes_eq, is_some, slice_get, sum_by, IsSomeAnd}
+use Rattle.std.proofs.Common.{◌≡◌, ℕ, ◌+◌, ◌-◌, ◌<◌, ◌≤◌, ◌==◌, ◌&&◌, Bool, true, cond, List, [], ◌∷◌, false, drop, length, map, Option, Some, None, refl, sym, ap, subst, ◌∙◌, arith}
+use Rattle.std.specs.Prelude.{bytes_eq, is_some, slice_get, sum_by, IsSome, IsSomeAnd}
 use Rattle.std.specs.Option.{option_map, option_map_or}
 use Rattle.std.specs.List.{list_any}
 use Rattle.std.specs.Ordering.{nat_cmp}
@@ -13,7 +13,7 @@ use Rattle.blob_entries.specs.Changes.{held_less}
 use Rattle.blob_entries.specs.declared.entry.Entry.{Entry}
 use Rattle.renderer_table.specs.Counted.{origin_at, ChangesCount, Dies}
 use Rattle.renderer_table.specs.Counts.{count_on}
-use Rattle.renderer_table.specs.Table.{Table, count_of, living_of, was_spawned, with_counts}
+use Rattle.renderer_table.specs.Table.{Table, count_of, counts_of, living_of, was_spawned, with_counts}
 use Rattle.renderer_table.specs.declared.living.Living.{Living}
 use Rattle.url_store.specs.Changes.{GoesFrom}
 use Rattle.url_store.specs.Urls.{own_url, owned_by, url_at, without, without_first}
@@ -32,7 +32,7 @@ use Rattle.blob_store.specs.Whole.{Whole}
 use Rattle.blob_store.proofs.HeardTables.{goes_seen, open_said, open_seen}
 use Rattle.blob_store.proofs.Rerooted.{whole_same}
 use Rattle.blob_store.proofs.Rerooting.{born_still, reader_roots, roots_fewer, stands_rooted, url_roots, whole_closed, whole_unnamed}
-use Rattle.blob_store.proofs.Rooting.{handles_moved, on_held, within_handles}
+use Rattle.blob_store.proofs.Rooting.{counts_now, handles_moved, living_now, on_held, within_handles}
 
 abbrev Urls : Type 0
 Urls = List (List ℕ × Url)
@@ -161,15 +161,49 @@ whole_unlinked parts owner blob urls whole told is goes =
 
 -- ---- handles
 
+shorter : (list : List (ℕ × ℕ)) (first : ℕ × ℕ) → Some first ≡ slice_get list 0 → length (drop 1 list) < length list
+shorter [] first told = absurd (cc told)
+shorter (one ∷ list) first told = omega arith
+
+some_living : (held : Option Living) → IsSome held → (one : Living) × (held ≡ Some one)
+some_living None is = absurd (cc is)
+some_living (Some one) is = (one, refl)
+
+module _ (id name count : ℕ) (old new : Table) (alive : IsSome (living_of id old)) (first : Some (name, count) ≡ slice_get (counts_of id old) 0)
+    (is : new ≡ with_counts id (drop 1 (counts_of id old)) old) where
+  one : (one : Living) × (living_of id old ≡ Some one)
+  one = some_living (living_of id old) alive
+
+  pub fewer_counts : length (counts_of id new) < length (counts_of id old)
+  fewer_counts =
+      let now = ap (λ (counts : List (ℕ × ℕ)). length counts) (counts_now id old new one.0 one.1 (drop 1 (counts_of id old)) is) in
+      let less = shorter (counts_of id old) (name, count) first in
+      omega (arith, now, less)
+
+  pub still_alive : IsSome (living_of id new)
+  still_alive = living_now id old new one.0 one.1 (drop 1 (counts_of id old)) is
+
+-- so many handles give the blob as many roots
+pub handles_rooted : (parts : Parts) (id name count : ℕ) → Whole parts → count_of id name parts.renderers ≡ count → count ≤ roots_at parts.registry name
+handles_rooted parts id name count whole counted = omega (arith, counted, within_handles id name parts.renderers, whole.roots name)
+
+-- counts of others stay
+pub others_stay : (id blob : ℕ) (first old new : Table) → ChangesCount (λ (n : ℕ). 0) id blob old new
+    → ((other name : ℕ) → (id == other) ≡ false → count_of other name old ≡ count_of other name first)
+    → (other name : ℕ) → (id == other) ≡ false → count_of other name new ≡ count_of other name first
+others_stay id blob first old new changes were other name apart =
+    changes.counts other name ∙ ap (λ (b : Bool). cond (b && (blob == name)) 0 (count_of other name old)) apart ∙ were other name apart
+
 -- all handles of a renderer on a blob go
-pub whole_unheld : (parts : Parts) (book : Book) (id name count : ℕ) (one : Living) (counts : List (ℕ × ℕ)) (renderers : Table) → Whole parts
+pub whole_unheld : (parts : Parts) (book : Book) (id name count : ℕ) (counts : List (ℕ × ℕ)) (renderers : Table) → Whole parts
     → AreRerooted parts.registry book
     → ((other : ℕ) → roots_at book other ≡ cond (name == other) (roots_at parts.registry other - count) (roots_at parts.registry other))
-    → living_of id parts.renderers ≡ Some one → renderers ≡ with_counts id counts parts.renderers → count_of id name parts.renderers ≡ count
+    → IsSome (living_of id parts.renderers) → renderers ≡ with_counts id counts parts.renderers → count_of id name parts.renderers ≡ count
     → ChangesCount (λ (n : ℕ). 0) id name parts.renderers renderers → Whole (record parts { registry = book; renderers = renderers })
-whole_unheld parts book id name count one counts renderers whole same roots there is counted changes =
+whole_unheld parts book id name count counts renderers whole same roots alive is counted changes =
+    let one = some_living (living_of id parts.renderers) alive in
     whole_same parts book renderers parts.urls parts.readers whole same (born_still (λ (n : ℕ). 0) id name parts.renderers renderers whole.living changes)
-    (λ other. by other (name == other) refl (roots other) (left other) (handles_moved id parts.renderers renderers one there counts is other))
+    (λ other. by other (name == other) refl (roots other) (left other) (handles_moved id parts.renderers renderers one.0 one.1 counts is other))
     (λ other. few other (name == other) (roots other)) whole.readers whole.opened
   where
     left : (other : ℕ) → count_of id other renderers ≡ cond (name == other) 0 (count_of id other parts.renderers)

@@ -174,7 +174,7 @@ module _ (parts : Parts) (renderers : Table) (urls : Urls) (readers : Open) (nam
 
 -- ---- handles
 
-born_still : (change : ℕ → ℕ) (id name : ℕ) (old new : Table) → AreBorn old → ChangesCount change id name old new → AreBorn new
+pub born_still : (change : ℕ → ℕ) (id name : ℕ) (old new : Table) → AreBorn old → ChangesCount change id name old new → AreBorn new
 born_still change id name old new born changes number fresh =
     changes.origins number ∙ born number (ap (λ (list : List ℕ). list_any (is_at (nat_cmp number)) list) (sym changes.spawned) ∙ fresh)
 

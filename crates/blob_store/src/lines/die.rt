@@ -79,8 +79,8 @@ impl Parts {
           renderers = self.new.renderers;
         } }
     {
-        while let Some((name, count)) = self.renderers.die(renderer) {
-            let_go_times(&mut self.registry, name, count);
+        while let Some(taken) = self.renderers.die(renderer) {
+            let_go_times(&mut self.registry, taken.0, taken.1);
         }
     }
 

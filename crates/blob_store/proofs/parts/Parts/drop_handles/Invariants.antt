@@ -6,8 +6,8 @@ use Rattle.store_laws.specs.Roots.{AreRerooted}
 use Rattle.blob_store.specs.Whole.{Whole}
 use Rattle.blob_store.proofs.parts.Parts.drop_handles.Given as goal
 
-abbrev pub invariant-loop-name : goal.invariant-loop-name
-invariant-loop-name l = record {
+abbrev pub invariant-loop-taken : goal.invariant-loop-taken
+invariant-loop-taken l = record {
   whole : Whole l.self;
   same : AreRerooted l.fn.self.registry l.self.registry;
   alive : IsSome (living_of l.renderer.0 l.self.renderers);
@@ -17,5 +17,5 @@ invariant-loop-name l = record {
   rest : l.self ≡ record l.fn.self { registry = l.self.registry; renderers = l.self.renderers };
 }
 
-abbrev pub decreases-loop-name : goal.decreases-loop-name
-decreases-loop-name l = length (counts_of l.renderer.0 l.self.renderers)
+abbrev pub decreases-loop-taken : goal.decreases-loop-taken
+decreases-loop-taken l = length (counts_of l.renderer.0 l.self.renderers)
