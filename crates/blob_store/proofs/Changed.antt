@@ -10,6 +10,8 @@ use Rattle.blob_entries.specs.declared.entry.Entry.{Entry}
 use Rattle.blob_entries.proofs.Holdings.{in_cons, on_held}
 use Rattle.blob_entries.proofs.Numbers.{name_there}
 use Rattle.blob_entries.proofs.Soundness.{at_other, same_or}
+use Rattle.blob_store.specs.declared.row.Row.{Row}
+use Rattle.blob_store.specs.Whole.{IsAwaited}
 
 abbrev Entries : Type 0
 Entries = List (Option Entry)
@@ -35,6 +37,26 @@ held_changed P change keeps entries number other kept =
     by : (held : Option Entry) → IfSome held P → IfSome (option_map change held) P
     by None is = tt
     by (Some entry) is = keeps entry is
+
+-- and what is said of all that stands or doesn't, where a change keeps it
+pub still_changed : (P : Option Entry → Type 0) (change : Entry → Entry) → ((held : Option Entry) → P held → P (option_map change held)) → (entries : Entries)
+    (number other : ℕ) → P (entry_at entries other) → P (entry_at (set entries number (option_map change (entry_at entries number))) other)
+still_changed P change keeps entries number other kept =
+    same_or other number
+    (λ equal. subst (λ (k : ℕ). P (entry_at (set entries number (option_map change (entry_at entries number))) k)) (sym equal)
+    (subst P (sym (at_here change entries number)) (keeps (entry_at entries number) (subst (λ (k : ℕ). P (entry_at entries k)) equal kept))))
+    (λ apart. subst P (sym (at_other entries number other (option_map change (entry_at entries number)) apart)) kept)
+
+-- bytes come for blobs that stand alone, as before
+pub awaited_changed : (change : Entry → Entry) (entries : Entries) (number other : ℕ) (row : Option Row) → IfSome row (IsAwaited (entry_at entries other))
+    → IfSome row (IsAwaited (entry_at (set entries number (option_map change (entry_at entries number))) other))
+awaited_changed change entries number other row is =
+    still_changed (λ (held : Option Entry). IfSome row (IsAwaited held)) change (λ held. by held row) entries number other is
+  where
+    by : (held : Option Entry) (row : Option Row) → IfSome row (IsAwaited held) → IfSome row (IsAwaited (option_map change held))
+    by None row is = is
+    by (Some entry) None is = tt
+    by (Some entry) (Some row) is = tt
 
 -- views that a change keeps are as many on each slot
 pub views_changed : (change : Entry → Entry) → ((entry : Entry) → held_views (change entry) ≡ held_views entry) → (entries : Entries) (number slot : ℕ)

@@ -1,9 +1,10 @@
 -- What follows where no fault of the renderers is due.
 use Rattle.std.proofs.Common.{◌≡◌, ℕ, zero, suc, ◌<◌, ◌==◌, Bool, true, false, Option, Some, None, refl, arith}
-use Rattle.std.specs.Prelude.{is_none, if◌then◌else◌}
+use Rattle.std.specs.Prelude.{is_none, length, nat_le, if◌then◌else◌}
 use Rattle.blob_words.specs.declared.number.RendererId.{RendererId}
-use Rattle.renderer_table.specs.Table.{Table, count_of, drop_fault, living_of}
+use Rattle.renderer_table.specs.Table.{Table, count_of, drop_fault, living_of, spawn_fault, was_spawned}
 use Rattle.renderer_table.specs.declared.fault.DropFault.TheVariants as drops
+use Rattle.renderer_table.specs.declared.fault.SpawnFault.TheVariants as spawns
 use Rattle.renderer_table.specs.declared.living.Living.{Living}
 
 -- where a handle can be dropped the renderer is alive and has one
@@ -21,3 +22,11 @@ none_due id name table due = by (living_of id.0 table) refl (count_of id.0 name 
     by None at b is due = cc due
     by (Some one) at true is due = cc due
     by (Some one) at false is due = ((one, at), above (count_of id.0 name table) is)
+
+-- who can be spawned wasn't
+pub none_used : (id : ℕ) (table : Table) → spawn_fault id table ≡ None → was_spawned id table ≡ false
+none_used id table due = by (was_spawned id table) (nat_le 1024 (length table.spawned)) due
+  where
+    by : (used full : Bool) → (if used then Some spawns.Used else if full then Some spawns.Full else None) ≡ None → used ≡ false
+    by true full due = absurd (cc due)
+    by false full due = refl

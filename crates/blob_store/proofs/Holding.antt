@@ -1,11 +1,12 @@
 -- The parts agree after a change of who holds a blob.
 use Rattle.std.proofs.Common.{◌≡◌, ℕ, ◌+◌, ◌-◌, ◌<◌, ◌≤◌, ◌==◌, ◌&&◌, Bool, true, false, cond, List, Option, Some, None, refl, sym, ap, subst, ◌∙◌, arith}
-use Rattle.std.specs.Prelude.{length, slice_index, IfSome, IsSomeAnd}
+use Rattle.std.specs.Prelude.{length, slice_get, slice_index, IfSome, IsSomeAnd}
 use Rattle.std.specs.Option.{option_map, option_map_or}
 use Rattle.std.specs.List.{list_any, AllByRecursion}
 use Rattle.std.specs.Ordering.{nat_cmp}
 use Rattle.std.specs.BTreeMap.{is_at}
 use Rattle.std.proofs.lemmas.Bool.{eq-eqb, eqb-true}
+use Rattle.blob_words.specs.declared.bounds.TheConstants.{MOST_READERS}
 use Rattle.blob_words.specs.declared.number.RendererId.{RendererId}
 use Rattle.blob_items.specs.declared.view.View.{View}
 use Rattle.item_shares.specs.declared.shares.Share.{Share}
@@ -26,8 +27,8 @@ use Rattle.blob_store.specs.declared.readers.OpenReader.{OpenReader}
 use Rattle.blob_store.specs.Readers.{reader_at}
 use Rattle.blob_store.specs.Roots.{handles_of, roots_at, roots_in}
 use Rattle.blob_store.specs.Rows.{pins}
-use Rattle.blob_store.specs.Whole.{row_weights, IsInside, IsOpen, IsThere, Views, Whole}
-use Rattle.blob_store.proofs.Changed.{entry_changed, held_changed, views_changed}
+use Rattle.blob_store.specs.Whole.{row_weights, with_line, IsInside, IsOpen, IsThere, Views, Whole}
+use Rattle.blob_store.proofs.Changed.{awaited_changed, entry_changed, held_changed, views_changed}
 use Rattle.blob_store.proofs.Rooting.{handles_moved}
 use Rattle.blob_store.proofs.Faults.{none_due}
 
@@ -79,25 +80,28 @@ module _ (change : Entry → Entry) (reroots : Reroots change) where
   }
 
   -- all parts agree, where the tables give the roots that the entries have, and the readers are open in what stands
-  pub whole_rerooted : (parts : Parts) (renderers : Table) (urls : List (List ℕ × Url)) (readers : List (ℕ × OpenReader)) (name : ℕ) → Whole parts
+  pub whole_rerooted : (parts : Parts) (renderers : Table) (urls : List (List ℕ × Url)) (readers : List (ℕ × OpenReader)) (lines name : ℕ) → Whole parts
       → ((number : ℕ) → was_spawned number renderers ≡ false → origin_at number renderers ≡ None)
       → ((other : ℕ) → roots_at (changed parts.registry name change) other ≡ roots_in renderers urls readers other)
-      → ((number : ℕ) → IfSome (reader_at number readers) (IsOpen (changed parts.registry name change)))
-      → Whole (record parts { registry = changed parts.registry name change; renderers = renderers; urls = urls; readers = readers })
-  whole_rerooted parts renderers urls readers name whole living roots are = by (number_of name parts.registry.names) roots are
+      → ((other : ℕ) → roots_at (changed parts.registry name change) other ≤ lines)
+      → ((number : ℕ) → IfSome (reader_at number readers) (IsOpen (changed parts.registry name change))) → length readers ≤ MOST_READERS
+      → Whole (record parts { lines = lines; registry = changed parts.registry name change; renderers = renderers; urls = urls; readers = readers })
+  whole_rerooted parts renderers urls readers lines name whole living roots few are opened = by (number_of name parts.registry.names) roots few are
     where
       by : (found : Option ℕ)
           → ((other : ℕ) → roots_at (option_map_or (λ (number : ℕ). changed_at parts.registry number change) found parts.registry) other
           ≡ roots_in renderers urls readers other)
+          → ((other : ℕ) → roots_at (option_map_or (λ (number : ℕ). changed_at parts.registry number change) found parts.registry) other ≤ lines)
           → ((number : ℕ) → IfSome (reader_at number readers)
           (IsOpen (option_map_or (λ (number : ℕ). changed_at parts.registry number change) found parts.registry)))
           → Whole (record parts {
+            lines = lines;
             registry = option_map_or (λ (number : ℕ). changed_at parts.registry number change) found parts.registry;
             renderers = renderers;
             urls = urls;
             readers = readers;
           })
-      by None roots are = record {
+      by None roots few are = record {
         charged = whole.charged;
         items = whole.items;
         ranges = whole.ranges;
@@ -106,15 +110,19 @@ module _ (change : Entry → Entry) (reroots : Reroots change) where
         job = whole.job;
         order = whole.order;
         rows = whole.rows;
+        awaited = whole.awaited;
+        unheld = whole.unheld;
         waits = whole.waits;
         weight = whole.weight;
         light = whole.light;
         weighed = whole.weighed;
         living = living;
         roots = roots;
+        few = few;
         readers = are;
+        opened = opened;
       }
-      by (Some number) roots are = record {
+      by (Some number) roots few are = record {
         charged = record {
           counts = λ slot.
               whole.charged.counts slot
@@ -132,6 +140,8 @@ module _ (change : Entry → Entry) (reroots : Reroots change) where
         job = whole.job;
         order = whole.order;
         rows = whole.rows;
+        awaited = λ other. awaited_changed change parts.registry.entries number other (slice_get parts.rows other) (whole.awaited other);
+        unheld = whole.unheld;
         waits = whole.waits;
         weight = whole.weight;
         light = whole.light;
@@ -142,7 +152,9 @@ module _ (change : Entry → Entry) (reroots : Reroots change) where
             change (λ entry is. rw (reroots.views entry, reroots.recipe entry) is) parts.registry.entries number other (whole.weighed other);
         living = living;
         roots = roots;
+        few = few;
         readers = are;
+        opened = opened;
       }
 
 -- a handle goes
@@ -151,8 +163,8 @@ pub whole_dropped : (parts : Parts) (id : RendererId) (name : ℕ) (renderers : 
     → ChangesCount (λ (count : ℕ). count - 1) id.0 name parts.renderers renderers
     → Whole (record parts { registry = changed parts.registry name held_less; renderers = renderers })
 whole_dropped parts id name renderers whole due is changes =
-    whole_rerooted held_less less_reroots parts renderers parts.urls parts.readers name whole living roots
-    (λ number. by (reader_at number parts.readers) (whole.readers number))
+    whole_rerooted held_less less_reroots parts renderers parts.urls parts.readers parts.lines name whole living roots few
+    (λ number. by (reader_at number parts.readers) (whole.readers number)) whole.opened
   where
     living : (number : ℕ) → was_spawned number renderers ≡ false → origin_at number renderers ≡ None
     living number fresh =
@@ -183,9 +195,41 @@ whole_dropped parts id name renderers whole due is changes =
         ∙ ap (λ (b : Bool). cond (b && false) (count_of id.0 other parts.renderers - 1) (count_of id.0 other parts.renderers)) (eq-eqb id.0 id.0 refl) in
         omega (arith, still, moved, had)
 
+    few : (other : ℕ) → roots_at (changed parts.registry name held_less) other ≤ parts.lines
+    few other = let less = roots_less parts.registry name other in by (name == other) (omega (arith, less)) (whole.few other)
+      where
+        by : (b : Bool) → roots_at (changed parts.registry name held_less) other ≤ cond b (roots_at parts.registry other - 1) (roots_at parts.registry other)
+            → roots_at parts.registry other ≤ parts.lines → roots_at (changed parts.registry name held_less) other ≤ parts.lines
+        by true is had = omega (arith, is, had)
+        by false is had = omega (arith, is, had)
+
     roots : (other : ℕ) → roots_at (changed parts.registry name held_less) other ≡ roots_in renderers parts.urls parts.readers other
     roots other =
         let one = (none_due id name parts.renderers due).0 in
         roots_less parts.registry name other
         ∙ here other (name == other) refl (changes.counts id.0 other)
         (handles_moved id.0 parts.renderers renderers one.0 one.1 (one_fewer name (counts_of id.0 parts.renderers)) is other) (whole.roots other)
+
+-- one more line is counted
+pub whole_counted : (parts : Parts) → Whole parts → Whole (with_line parts)
+whole_counted parts whole = record {
+  charged = whole.charged;
+  items = whole.items;
+  ranges = whole.ranges;
+  views = whole.views;
+  pages = whole.pages;
+  job = whole.job;
+  order = whole.order;
+  rows = whole.rows;
+  awaited = whole.awaited;
+  unheld = whole.unheld;
+  waits = whole.waits;
+  weight = whole.weight;
+  light = whole.light;
+  weighed = whole.weighed;
+  living = whole.living;
+  roots = whole.roots;
+  few = λ name. omega (arith, whole.few name);
+  readers = whole.readers;
+  opened = whole.opened;
+}

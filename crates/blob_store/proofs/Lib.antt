@@ -1,4 +1,5 @@
 pub mod Releasing
+pub mod OwnedReaders
 pub mod Opening
 pub mod Rooting
 pub mod Changed
@@ -6,3 +7,14 @@ pub mod Faults
 pub mod Holding
 pub mod Spawning
 pub mod Sweeping
+pub mod Beginning
+pub mod Heard
+pub mod HeldBy
+pub mod Few
+pub mod Beside
+pub mod Freeing
+pub mod Rerooting
+pub mod HeardTables
+pub mod Rerooted
+pub mod Leaving
+pub mod Refusing

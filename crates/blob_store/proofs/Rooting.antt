@@ -1,5 +1,5 @@
 -- Who has a handle on a blob has it stand, and what a change of handles makes of their number.
-use Rattle.std.proofs.Common.{◌≡◌, ℕ, ◌+◌, ◌<◌, ◌≤◌, ◌==◌, Bool, List, [], Option, Some, None, cond, refl, ap, ◌∙◌, arith}
+use Rattle.std.proofs.Common.{◌≡◌, ℕ, ◌+◌, ◌<◌, ◌≤◌, Bool, true, List, [], Option, Some, None, cond, refl, ap, ◌∙◌, arith}
 use Rattle.std.specs.Prelude.{is_some, sum_by, unwrap_or, IsSomeAnd}
 use Rattle.std.specs.Option.{option_map, option_map_or}
 use Rattle.std.specs.Ordering.{nat_cmp}
@@ -11,13 +11,13 @@ use Rattle.blob_entries.specs.Book.{Book, entry_of}
 use Rattle.blob_entries.specs.declared.entry.Entry.{Entry}
 use Rattle.renderer_table.proofs.Counting.{lookup_written}
 use Rattle.renderer_table.specs.Counts.{count_on}
-use Rattle.renderer_table.specs.Table.{Table, count_of, living_of, with_counts}
+use Rattle.renderer_table.specs.Table.{Table, count_of, counts_of, living_of, with_counts}
 use Rattle.renderer_table.specs.declared.living.Living.{Living}
 use Rattle.url_store.specs.declared.url.Url.{Url}
 use Rattle.blob_store.specs.declared.readers.OpenReader.{OpenReader}
 use Rattle.blob_store.specs.Roots.{handles_of, roots_at, roots_in}
 
-on_held : (name : ℕ) (held : Option Living)
+pub on_held : (name : ℕ) (held : Option Living)
     → count_on name (option_map_or (λ (one : Living). one.counts) held []) ≡ unwrap_or (option_map (λ (one : Living). count_on name one.counts) held) 0
 on_held name None = refl
 on_held name (Some one) = refl
@@ -52,6 +52,12 @@ module _ (id : ℕ) (old new : Table) (one : Living) (found : living_of id old �
   there =
       ap (lookup (is_at (nat_cmp id))) written ∙ lookup_written id id next old.living (ap is_some found)
       ∙ ap (λ (b : Bool). cond b (Some next) (living_of id old)) (eq-eqb id id refl)
+
+  pub living_now : is_some (living_of id new) ≡ true
+  living_now = ap (λ (held : Option Living). is_some held) there
+
+  pub counts_now : counts_of id new ≡ counts
+  counts_now = ap (λ (held : Option Living). option_map_or (λ (each : Living). each.counts) held []) there
 
   pub handles_moved : (name : ℕ) → handles_of name new + count_of id name old ≡ handles_of name old + count_of id name new
   handles_moved name =

@@ -45,13 +45,17 @@ whole_spawned parts id origin renderers whole fresh is spawns = record {
   job = whole.job;
   order = whole.order;
   rows = whole.rows;
+  awaited = whole.awaited;
+  unheld = whole.unheld;
   waits = whole.waits;
   weight = whole.weight;
   light = whole.light;
   weighed = whole.weighed;
   living = living;
   roots = λ name. let same = handles name in omega (arith, whole.roots name, same);
+  few = whole.few;
   readers = whole.readers;
+  opened = whole.opened;
 }
   where
     handles : (name : ℕ) → handles_of name renderers ≡ handles_of name parts.renderers

@@ -1,5 +1,5 @@
 -- Counts and charges after a sweep.
-use Rattle.std.proofs.Common.{◌≡◌, ℕ, ◌+◌, ◌-◌, ◌<◌, ◌≤◌, ◌||◌, Bool, true, false, cond, List, [], ◌∷◌, ◌++◌, Option, Some, None, refl, ap, ◌∙◌, arith}
+use Rattle.std.proofs.Common.{◌≡◌, ℕ, ◌+◌, ◌-◌, ◌≤◌, ◌||◌, Bool, true, false, cond, List, [], ◌∷◌, Option, Some, None, refl, ap, arith}
 use Rattle.std.specs.Prelude.{sum_by}
 use Rattle.item_shares.specs.declared.item.Item.{Item}
 use Rattle.item_shares.specs.declared.shares.Share.{Share}
@@ -17,7 +17,7 @@ use Rattle.blob_entries.proofs.Counting.{on_append}
 use Rattle.blob_entries.proofs.Holdings.{in_cons, on_held}
 use Rattle.blob_registry.specs.Sweeps.{let_go, swept, Sweeping}
 use Rattle.blob_store.specs.declared.row.Row.{Row}
-use Rattle.blob_store.specs.Weights.{memory_weight, piece_weight, reserved_weight}
+use Rattle.store_laws.specs.Weights.{memory_weight, piece_weight, reserved_weight}
 use Rattle.blob_store.specs.Whole.{Charged}
 
 on_left : (slot : ℕ) (lives : Bool) (held : Option Entry) → on_held slot (left lives held) + views_on slot (gone_views lives held) ≡ on_held slot held

@@ -1,30 +1,8 @@
--- What becomes of the parts when an item goes. Own.
-use Rattle.std.specs.Prelude.{List, [], ◌∷◌, IsSome, ℕ, ◌≡◌, true}
-use Rattle.std.specs.Option.{option_map}
+-- What becomes of data handles when items go. Own.
+use Rattle.std.specs.Prelude.{List, [], ◌∷◌, IsSome, is_some, ℕ, ◌≡◌, ◌&&◌, true, if◌then◌else◌}
 use Rattle.item_shares.specs.declared.item.Item.{Item}
-use Rattle.item_shares.specs.declared.item.Item.TheVariants.{Memory, Paged, Reserved, File, Range}
-use Rattle.blob_words.specs.declared.number.PieceNo.{PieceNo}
-use Rattle.page_files.specs.Files.{Files, struck, unreserved}
-use Rattle.page_files.specs.Pages.{released_at}
-use Rattle.recent_items.specs.Recent.{without}
+use Rattle.item_shares.specs.declared.item.Item.TheVariants.{Range}
 use Rattle.data_handles.specs.Table.{Table, is_claimed_at, object_at, released_at as emptied_at}
-
--- the order of use without the piece of an item in memory
-abbrev pub left_by : List (ℕ × ℕ) → Item → List (ℕ × ℕ)
-left_by order (Memory piece bytes) = without piece.0 order
-left_by order item = order
-
--- page files whose job in flight hasn't got a piece
-abbrev pub without_piece : PieceNo → Files → Files
-without_piece piece files = record files { job = option_map (struck piece) files.job }
-
--- page files without an item: its piece is in no page and no job, and what was reserved for it is free
-abbrev pub let_go_by : Files → Item → Files
-let_go_by files (Memory piece bytes) = without_piece piece files
-let_go_by files (Paged piece page off len) = without_piece piece (record files { pages = released_at page.0 piece files.pages })
-let_go_by files (Reserved piece len) = unreserved len files
-let_go_by files (File name stamp off len) = files
-let_go_by files (Range slot off len) = files
 
 -- data handles without the object of an item
 abbrev pub released_by : Table → Item → Table
@@ -40,3 +18,8 @@ CanRelease table item = Unit {0}
 abbrev pub AreReleasable : Table → List Item → Type 0
 AreReleasable table [] = Unit {0}
 AreReleasable table (item ∷ items) = CanRelease table item × AreReleasable (released_by table item) items
+
+-- 1 for a range whose object isn't claimed or isn't there
+abbrev pub bad_weight : Table → Item → ℕ
+bad_weight table (Range slot off len) = if is_claimed_at table slot && is_some (object_at table slot) then 0 else 1
+bad_weight table item = 0

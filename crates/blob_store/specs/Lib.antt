@@ -1,6 +1,11 @@
-pub mod Weights
 pub mod Freed
+pub mod Owners
 pub mod Readers
 pub mod Rows
 pub mod Roots
 pub mod Whole
+pub mod Seen
+pub mod Says
+pub mod New
+pub mod Begins
+pub mod Gone

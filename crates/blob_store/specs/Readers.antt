@@ -1,5 +1,5 @@
 -- The open readers by their numbers. Own.
-use Rattle.std.specs.Prelude.{ℕ, ◌≡◌, ◌+◌, ◌==◌, List, Option, None, Some, length, is_some, sum_by, if◌then◌else◌}
+use Rattle.std.specs.Prelude.{ℕ, ◌≡◌, ◌+◌, ◌==◌, Bool, false, List, Option, None, Some, length, is_some, sum_by, if◌then◌else◌}
 use Rattle.std.specs.Option.{option_map_or}
 use Rattle.std.specs.Map.{lookup, values_of}
 use Rattle.std.specs.Ordering.{nat_cmp}
@@ -32,3 +32,14 @@ pub record Closes (number : ℕ) (old new : List (ℕ × OpenReader)) : Type 0 w
   pub each : (other : ℕ) → reader_at other new ≡ (if number == other then None else reader_at other old)
   pub many : length new + (if is_some (reader_at number old) then 1 else 0) ≡ length old
   pub reading : (name : ℕ) → readers_of name new + reads_if name (reader_at number old) ≡ readers_of name old
+
+-- whether an open reader is this renderer's
+abbrev pub is_own : ℕ → Option OpenReader → Bool
+is_own owner reader = option_map_or (λ (one : OpenReader). one.owner.0 == owner) reader false
+
+-- this reader of a renderer goes
+pub record ClosesFrom (owner : ℕ) (reader : OpenReader) (old new : List (ℕ × OpenReader)) : Type 0 where
+  pub number : ℕ
+  pub there : reader_at number old ≡ Some reader
+  pub own : reader.owner.0 ≡ owner
+  pub closes : Closes number old new

@@ -1,7 +1,7 @@
 -- What the parts of a store keep among themselves, whatever the session was. Own.
-use Rattle.std.specs.Prelude.{ℕ, ◌≡◌, ◌≢◌, ◌+◌, ◌-◌, ◌^◌, ◌<◌, ◌≤◌, ◌==◌, ◌&&◌, false, true, List, [], map, length, slice_get, slice_index, sum, Option, None, Some, IfSome, IsSomeAnd}
+use Rattle.std.specs.Prelude.{ℕ, ◌≡◌, ◌+◌, ◌-◌, ◌^◌, ◌<◌, ◌≤◌, ◌==◌, ◌&&◌, false, true, List, map, length, slice_get, slice_index, sum, Option, None, Some, IfSome, IsSomeAnd}
 use Rattle.std.specs.List.{AllByRecursion, list_any}
-use Rattle.blob_words.specs.declared.bounds.TheConstants.{MOST_WEIGHT}
+use Rattle.blob_words.specs.declared.bounds.TheConstants.{MOST_READERS, MOST_WEIGHT}
 use Rattle.item_shares.specs.declared.item.Item.{Item}
 use Rattle.item_shares.specs.declared.item.Item.TheVariants.{Memory, Paged, Reserved, File, Range}
 use Rattle.item_shares.specs.declared.shares.Share.{Share}
@@ -21,23 +21,18 @@ use Rattle.quota_queue.specs.Queue.{Queue}
 use Rattle.page_files.specs.Pages.{pieces_at, pieces_of}
 use Rattle.renderer_table.specs.Counted.{origin_at}
 use Rattle.renderer_table.specs.Table.{was_spawned}
+use Rattle.store_laws.specs.Items.{holds_piece, item_length}
+use Rattle.store_laws.specs.PageFiles.{IsSlotOf}
+use Rattle.store_laws.specs.Weights.{memory_weight, piece_weight, range_weight, reserved_weight}
 use Rattle.blob_store.specs.declared.parts.Parts.{Parts}
 use Rattle.blob_store.specs.declared.readers.OpenReader.{OpenReader}
 use Rattle.blob_store.specs.declared.row.Row.{Row}
+use Rattle.blob_store.specs.declared.row.Sending.TheVariants.{Settled}
 use Rattle.blob_store.specs.Readers.{reader_at}
 use Rattle.blob_store.specs.Roots.{roots_at, roots_in}
-use Rattle.blob_store.specs.Rows.{bytes_gathered, pieces_gathered, pins, waiting}
-use Rattle.blob_store.specs.Weights.{memory_weight, piece_weight, range_weight, reserved_weight}
+use Rattle.blob_store.specs.Rows.{bytes_gathered, gathered_pieces, pieces_gathered, pins, waiting}
 
 -- ---- items
-
--- the number of bytes that an item stands for
-abbrev pub item_length : Item → ℕ
-item_length (Memory piece bytes) = length bytes
-item_length (Paged piece page off len) = len
-item_length (Reserved piece len) = len
-item_length (File name stamp off len) = len
-item_length (Range slot off len) = len
 
 -- the item of a piece is in the slot that is the home of the piece; so no piece has two items
 abbrev pub IsHome : List ℕ → ℕ → Item → Type 0
@@ -61,18 +56,6 @@ IsListed pages slot (Range handle off len) = off + len ≤ 2 ^ 64 - 1
 pub record IsHeld (homes : List ℕ) (pages : List Page) (slot : ℕ) (item : Item) : Type 0 where
   pub home : IsHome homes slot item
   pub listed : IsListed pages slot item
-
--- the number of the piece of an item, and of what a slot holds, is this one
-abbrev pub IsOfPiece : ℕ → Item → Type 0
-IsOfPiece number (Memory piece bytes) = piece.0 ≡ number
-IsOfPiece number (Paged piece page off len) = piece.0 ≡ number
-IsOfPiece number (Reserved piece len) = piece.0 ≡ number
-IsOfPiece number (File name stamp off len) = ⊥
-IsOfPiece number (Range handle off len) = ⊥
-
--- a piece that a page file or a job lists is in the slot that is named with it
-abbrev pub IsSlotOf : List (Option Share) → Held → Type 0
-IsSlotOf shares held = IsSomeAnd (item_at shares held.slot) (IsOfPiece held.piece.0)
 
 -- a piece in the order of use is in memory, with this length
 abbrev pub IsMemory : ℕ × ℕ → Item → Type 0
@@ -119,6 +102,18 @@ pub record Charged (entries : List (Option Entry)) (shares : List (Option Share)
   pub reserved : files.reserved ≡ weights reserved_weight shares
   pub held_so : held ≡ weights piece_weight shares + pieces_gathered rows
 
+-- ---- rows
+
+-- the pieces of a blob whose bytes are gathered, so many from the first one on, are no items
+abbrev pub AreUnheld : List (Option Share) → Row → Type 0
+AreUnheld shares row =
+    (number : ℕ) → row.first ≤ number → number < row.first + gathered_pieces row.sending → holds_piece shares number ≡ false
+
+-- bytes come for blobs that stand alone
+abbrev pub IsAwaited : Option Entry → Row → Type 0
+IsAwaited None row = row.sending ≡ Settled
+IsAwaited (Some entry) row = Unit {0}
+
 -- ---- all parts
 
 abbrev pub row_weights : List Row → List ℕ
@@ -135,6 +130,8 @@ pub record Whole (parts : Parts) : Type 0 where
   pub order : AllByRecursion (IsInMemory parts.shares parts.homes) parts.recent
   -- a row for each blob
   pub rows : length parts.rows ≡ length parts.registry.names
+  pub awaited : (number : ℕ) → IfSome (slice_get parts.rows number) (IsAwaited (entry_at parts.registry.entries number))
+  pub unheld : (number : ℕ) → IfSome (slice_get parts.rows number) (AreUnheld parts.shares)
   pub waits : parts.quota.waiting ≡ waiting parts.registry.names parts.rows
   pub weight : parts.weight ≡ sum (row_weights parts.rows)
   pub light : parts.weight ≤ MOST_WEIGHT
@@ -142,7 +139,14 @@ pub record Whole (parts : Parts) : Type 0 where
   -- who lives and who holds what
   pub living : (number : ℕ) → was_spawned number parts.renderers ≡ false → origin_at number parts.renderers ≡ None
   pub roots : (name : ℕ) → roots_at parts.registry name ≡ roots_in parts.renderers parts.urls parts.readers name
+  -- a line gives a blob one root at most
+  pub few : (name : ℕ) → roots_at parts.registry name ≤ parts.lines
   pub readers : (number : ℕ) → IfSome (reader_at number parts.readers) (IsOpen parts.registry)
+  pub opened : length parts.readers ≤ MOST_READERS
+
+-- the parts once one more line is counted: a line that gives a root leaves the parts whole so
+abbrev pub with_line : Parts → Parts
+with_line parts = record parts { lines = parts.lines + 1 }
 
 -- the same as one word, so that the proofs of callers stay small
 unfoldable pub IsCharged : Parts → Type 0

@@ -3,8 +3,9 @@ ghost use Rattle.std.specs.Prelude.{◌≡◌, ◌+◌, ◌-◌, ◌≤◌, List
 ghost use Rattle.data_handles.specs.Boxes.{of_table};
 ghost use Rattle.page_disk.specs.declared.change.Change.{Change};
 ghost use Rattle.page_files.specs.Files.{Agrees};
-ghost use Rattle.blob_store.specs.Freed.{left_by, let_go_by, released_by, AreReleasable};
-ghost use Rattle.blob_store.specs.Weights.{memory_weight, piece_weight, reserved_weight};
+ghost use Rattle.blob_store.specs.Freed.{released_by, AreReleasable};
+ghost use Rattle.store_laws.specs.LetGo.{left_by, let_go_by};
+ghost use Rattle.store_laws.specs.Weights.{memory_weight, piece_weight, reserved_weight};
 
 use data_handles::{Boxed, DataHandle, HandleTable};
 use item_shares::Item;
@@ -39,11 +40,14 @@ fn discharge_one(
         }
         Item::Paged { piece, page, .. } => {
             pages.release_piece(*page, *piece);
+            recent.leave(*piece);
             pages.strike(*piece);
             *held -= 1;
         }
-        Item::Reserved { len, .. } => {
+        Item::Reserved { piece, len } => {
             pages.unreserve(*len);
+            recent.leave(*piece);
+            pages.strike(*piece);
             *held -= 1;
         }
         Item::File { .. } => {}

@@ -2,6 +2,13 @@
 #![tactic(auto)]
 
 pub mod freed;
+mod lines;
+mod numbers;
+mod owners;
 pub mod parts;
 pub mod readers;
 pub mod row;
+mod settle;
+pub mod store;
+
+pub use store::BlobStore;

@@ -1,7 +1,9 @@
+ghost use Rattle.std.specs.Prelude.{IfOk};
+
 use crate::readers::Readers;
 use crate::row::Row;
 use blob_registry::Registry;
-use blob_words::{ItemList, Limits, Version};
+use blob_words::{ItemList, Limits, NoMemory, Version};
 use file_table::FileTable;
 use item_shares::Shares;
 use page_files::PageFiles;
@@ -29,7 +31,7 @@ pub struct Parts {
     pub registry: Registry,
     /// The items that their views share.
     pub shares: Shares,
-    /// The slot of each piece that ever had an item, by the number of the piece.
+    /// The slot of each piece by its number, where it has an item.
     pub homes: ItemList<usize>,
     /// What is kept of each blob beside, by build number.
     pub rows: ItemList<Row>,
@@ -43,4 +45,54 @@ pub struct Parts {
     pub urls: UrlStore,
     pub renderers: Renderers,
     pub readers: Readers,
+}
+
+impl Parts {
+    ghost use Rattle.blob_store.specs.Begins.{Begins};
+    ghost use Rattle.blob_store.specs.New.{IsNew};
+    ghost use Rattle.blob_store.specs.Whole.{IsWhole};
+
+    // Each part new.
+    fn empty(alloc: Global, limits: Limits, version: Version) -> Result<Parts, NoMemory>
+        ensures { IfOk result (IsNew limits version) }
+    {
+        let registry = Registry::new(alloc)?;
+        let shares = Shares::new(alloc)?;
+        let quota = Quota::new(alloc, limits.memory)?;
+        let pages = PageFiles::new(alloc, limits.disk)?;
+        let recent = Recent::new(alloc)?;
+        let files = FileTable::new(alloc)?;
+        let urls = UrlStore::new(alloc)?;
+        let renderers = Renderers::new(alloc)?;
+        Ok(Parts {
+            alloc,
+            limits,
+            version,
+            is_spent: false,
+            lines: 0,
+            weight: 0,
+            held: 0,
+            registry,
+            shares,
+            homes: ItemList::new(alloc),
+            rows: ItemList::new(alloc),
+            quota,
+            pages,
+            recent,
+            files,
+            urls,
+            renderers,
+            readers: Readers::new(alloc),
+        })
+    }
+
+    /// The parts of a store that has heard nothing.
+    pub fn new(alloc: Global, limits: Limits, version: Version) -> Result<Parts, NoMemory>
+        ensures empty { IfOk result (IsNew limits version) }
+        ensures whole { IfOk result IsWhole }
+        ensures begins { IfOk result (Begins limits version) }
+    {
+        let parts = Parts::empty(alloc, limits, version)?;
+        Ok(parts)
+    }
 }

@@ -1,8 +1,9 @@
 //! The open readers by their numbers.
-ghost use Rattle.std.specs.Prelude.{◌≡◌, [], None, length, OnErr, OnOk};
+ghost use Rattle.std.specs.Prelude.{ℕ, ◌≡◌, [], None, false, length, IfNone, IfSome, OnErr, OnOk};
 ghost use Rattle.std.specs.Option.{option_copied};
-ghost use Rattle.blob_store.specs.Readers.{reader_at, Opens};
+ghost use Rattle.blob_store.specs.Readers.{is_own, reader_at, Closes, ClosesFrom, Opens};
 
+use crate::owners::{Owners, pop_number, put_number, take_number};
 use blob_words::{BlobName, NoMemory, ReaderId, RendererId};
 use range_reader::Reader;
 use std::alloc::Global;
@@ -20,17 +21,23 @@ pub struct OpenReader {
 /// The open readers. Contracts see them by their numbers, in rising order.
 #[derive(Debug, Drop)]
 pub struct Readers {
+    alloc: Global,
     // Numbers come from outside: an ordered map, so that no choice of them makes a look-up slow.
     by_number: BTreeMap<u32, OpenReader>,
+    // An index of the numbers, so that an owner's readers are found without those of others.
+    owners: Owners,
 }
 
 impl Model for Readers {
     ghost use Rattle.std.specs.Prelude.{ℕ, List};
     ghost use Rattle.blob_store.specs.declared.readers.OpenReader.{OpenReader};
+    ghost use Rattle.blob_store.specs.Owners.{Agree};
 
     ghost Value = { List (ℕ × OpenReader) };
 
     ghost view = { λ readers. readers.by_number.entries };
+
+    ghost invariant = { λ readers. Agree readers.by_number.entries readers.owners.entries };
 }
 
 impl Readers {
@@ -39,7 +46,9 @@ impl Readers {
         ensures { result ≡ [] }
     {
         Readers {
+            alloc,
             by_number: BTreeMap::new(alloc),
+            owners: BTreeMap::new(alloc),
         }
     }
 
@@ -64,7 +73,36 @@ impl Readers {
         ensures err { OnErr result (self.new ≡ self.old) }
     {
         let _count = self.by_number.len(); // says that the numbers are apart
+        let owner = reader.owner;
         self.by_number.insert(number.0, reader)?;
+        if put_number(&mut self.owners, self.alloc, owner.0, number.0).is_err() {
+            let _ = self.by_number.remove(&number.0);
+            return Err(NoMemory);
+        }
         Ok(())
+    }
+
+    /// Closes the reader of a number, where one is open.
+    pub fn close(&mut self, number: ReaderId) -> Option<OpenReader>
+        ensures taken { result ≡ reader_at number.0 self.old }
+        ensures closed { Closes number.0 self.old self.new }
+    {
+        let _count = self.by_number.len(); // says that the numbers are apart
+        let reader = self.by_number.remove(&number.0)?;
+        take_number(&mut self.owners, reader.owner.0, number.0);
+        Some(reader)
+    }
+
+    /// Closes the reader of a renderer that has the least number.
+    pub fn close_first(&mut self, owner: RendererId) -> Option<OpenReader>
+        ensures closed { IfSome result (λ reader.
+            ClosesFrom owner.0 reader self.old self.new) }
+        ensures none { IfNone result ((self.new ≡ self.old)
+            × ((number : ℕ) → is_own owner.0 (reader_at number self.old) ≡ false)) }
+    {
+        let _count = self.by_number.len(); // says that the numbers are apart
+        let number = pop_number(&mut self.owners, owner.0)?;
+        let reader = self.by_number.remove(&number)?;
+        Some(reader)
     }
 }

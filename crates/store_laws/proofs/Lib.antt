@@ -45,3 +45,6 @@ pub mod Building
 pub mod Parting
 pub mod Unended
 pub mod Entering
+pub mod NameForms
+pub mod UrlForms
+pub mod UrlRefusals

@@ -26,3 +26,4 @@ pub mod TableLaws
 pub mod BuildLaws
 pub mod PartLaws
 pub mod EntryLaws
+pub mod UrlForms

@@ -1,6 +1,7 @@
 //! Lines that change renderers, URLs, files and readers, and the roots of blobs.
 ghost use Rattle.store_laws.specs.Apart.{KeysDiffer};
 ghost use Rattle.store_laws.specs.TableLaws.{TableLinesStand};
+ghost use Rattle.store_laws.specs.UrlForms.{UrlFormsAgree};
 
 /// In a legal transcript the texts of the URLs differ, and the numbers of the open readers.
 pub fn keys_differ()
@@ -11,4 +12,9 @@ pub fn keys_differ()
 /// records or forgets a file, closes a reader, or lets a renderer die.
 pub fn table_lines_stand()
     ensures { TableLinesStand }
+{}
+
+/// A text has the form of a blob URL of an origin exactly where it names a blob.
+pub fn url_forms_agree()
+    ensures { UrlFormsAgree }
 {}

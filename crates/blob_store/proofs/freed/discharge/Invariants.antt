@@ -2,8 +2,8 @@ use Rattle.std.proofs.Common.{◌≡◌, ◌+◌, ◌-◌, List, take}
 use Rattle.std.specs.Prelude.{fold, sum_by}
 use Rattle.page_disk.specs.declared.change.Change.{Change}
 use Rattle.page_files.specs.Files.{Agrees}
-use Rattle.blob_store.specs.Freed.{left_by, let_go_by}
-use Rattle.blob_store.specs.Weights.{memory_weight, piece_weight, reserved_weight}
+use Rattle.store_laws.specs.LetGo.{left_by, let_go_by}
+use Rattle.store_laws.specs.Weights.{memory_weight, piece_weight, reserved_weight}
 use Rattle.blob_store.proofs.freed.discharge.Given as goal
 
 abbrev pub invariant-loop-item : goal.invariant-loop-item

@@ -1,0 +1,3 @@
+//! One file a list of settling: what is owed after a line, and its answers.
+
+mod drops;
