@@ -108,7 +108,8 @@ answer_is (answers.Moved j f ps) fits = ((j.0, fits.0, refl), ((f.0, fits.1, ref
 answer_is (answers.MoveFailed j f) fits = ((j.0, fits.0, refl), ((f.0, fits.1, refl), tt))
 answer_is (answers.MoveUnread j f) fits = ((j.0, fits.0, refl), ((f.0, fits.1, refl), tt))
 answer_is (answers.LostJob j) fits = ((j.0, fits, refl), tt)
-answer_is (answers.Held blobs urls readers waiting paging) fits = ((blobs, fits.0, refl), ((urls, fits.1, refl), ((readers, fits.2, refl), ((waiting, fits.3, refl), ((paging, refl), tt)))))
+answer_is (answers.Held blobs urls readers waiting paging) fits =
+    ((blobs, fits.0, refl), ((urls, fits.1, refl), ((readers, fits.2, refl), ((waiting, fits.3, refl), ((paging, refl), tt)))))
 answer_is (answers.Dropped b) fits = ((b, fits, refl), tt)
 answer_is (answers.Done b) fits = ((b, fits, refl), tt)
 answer_is (answers.Removed f) fits = ((f.0, fits, refl), tt)
@@ -193,24 +194,38 @@ word_visible words.Job = literal_visible (codes "job") refl
 word_visible words.Compacting = literal_visible (codes "compact") refl
 
 refusal_fields_visible : (refusal : Refusal) → RefusalHasText refusal → AllByRecursion AreVisible (refusal_fields refusal)
-refusal_fields_visible (refusals.NoRenderer r) fits = all_visible (refusal_kinds refusal_words.NoRenderer) (refusal_fields (refusals.NoRenderer r)) ((r.0, fits, refl), tt)
-refusal_fields_visible (refusals.RendererUsed r) fits = all_visible (refusal_kinds refusal_words.RendererUsed) (refusal_fields (refusals.RendererUsed r)) ((r.0, fits, refl), tt)
-refusal_fields_visible (refusals.NameUsed b) fits = all_visible (refusal_kinds refusal_words.NameUsed) (refusal_fields (refusals.NameUsed b)) ((b, fits, refl), tt)
-refusal_fields_visible (refusals.NoHandle r b) fits = all_visible (refusal_kinds refusal_words.NoHandle) (refusal_fields (refusals.NoHandle r b)) ((r.0, fits.0, refl), ((b, fits.1, refl), tt))
-refusal_fields_visible (refusals.NoSuchHandle k) fits = all_visible (refusal_kinds refusal_words.NoSuchHandle) (refusal_fields (refusals.NoSuchHandle k)) ((k, fits, refl), tt)
-refusal_fields_visible (refusals.HandleTaken k) fits = all_visible (refusal_kinds refusal_words.HandleTaken) (refusal_fields (refusals.HandleTaken k)) ((k, fits, refl), tt)
-refusal_fields_visible (refusals.NoTransport b) fits = all_visible (refusal_kinds refusal_words.NoTransport) (refusal_fields (refusals.NoTransport b)) ((b, fits, refl), tt)
-refusal_fields_visible (refusals.BadSegment n) fits = all_visible (refusal_kinds refusal_words.BadSegment) (refusal_fields (refusals.BadSegment n)) ((n, fits, refl), tt)
-refusal_fields_visible (refusals.SegmentTaken n) fits = all_visible (refusal_kinds refusal_words.SegmentTaken) (refusal_fields (refusals.SegmentTaken n)) ((n, fits, refl), tt)
-refusal_fields_visible (refusals.SegmentLength n) fits = all_visible (refusal_kinds refusal_words.SegmentLength) (refusal_fields (refusals.SegmentLength n)) ((n, fits, refl), tt)
-refusal_fields_visible (refusals.ReaderUsed q) fits = all_visible (refusal_kinds refusal_words.ReaderUsed) (refusal_fields (refusals.ReaderUsed q)) ((q.0, fits, refl), tt)
-refusal_fields_visible (refusals.NoReader q) fits = all_visible (refusal_kinds refusal_words.NoReader) (refusal_fields (refusals.NoReader q)) ((q.0, fits, refl), tt)
-refusal_fields_visible (refusals.Range size) fits = all_visible (refusal_kinds refusal_words.Range) (refusal_fields (refusals.Range size)) ((size, fits, refl), tt)
+refusal_fields_visible (refusals.NoRenderer r) fits = all_visible (refusal_kinds refusal_words.NoRenderer) (refusal_fields (refusals.NoRenderer r))
+    ((r.0, fits, refl), tt)
+refusal_fields_visible (refusals.RendererUsed r) fits = all_visible (refusal_kinds refusal_words.RendererUsed) (refusal_fields (refusals.RendererUsed r))
+    ((r.0, fits, refl), tt)
+refusal_fields_visible (refusals.NameUsed b) fits = all_visible (refusal_kinds refusal_words.NameUsed) (refusal_fields (refusals.NameUsed b))
+    ((b, fits, refl), tt)
+refusal_fields_visible (refusals.NoHandle r b) fits = all_visible (refusal_kinds refusal_words.NoHandle) (refusal_fields (refusals.NoHandle r b))
+    ((r.0, fits.0, refl), ((b, fits.1, refl), tt))
+refusal_fields_visible (refusals.NoSuchHandle k) fits = all_visible (refusal_kinds refusal_words.NoSuchHandle) (refusal_fields (refusals.NoSuchHandle k))
+    ((k, fits, refl), tt)
+refusal_fields_visible (refusals.HandleTaken k) fits = all_visible (refusal_kinds refusal_words.HandleTaken) (refusal_fields (refusals.HandleTaken k))
+    ((k, fits, refl), tt)
+refusal_fields_visible (refusals.NoTransport b) fits = all_visible (refusal_kinds refusal_words.NoTransport) (refusal_fields (refusals.NoTransport b))
+    ((b, fits, refl), tt)
+refusal_fields_visible (refusals.BadSegment n) fits = all_visible (refusal_kinds refusal_words.BadSegment) (refusal_fields (refusals.BadSegment n))
+    ((n, fits, refl), tt)
+refusal_fields_visible (refusals.SegmentTaken n) fits = all_visible (refusal_kinds refusal_words.SegmentTaken) (refusal_fields (refusals.SegmentTaken n))
+    ((n, fits, refl), tt)
+refusal_fields_visible (refusals.SegmentLength n) fits = all_visible (refusal_kinds refusal_words.SegmentLength) (refusal_fields (refusals.SegmentLength n))
+    ((n, fits, refl), tt)
+refusal_fields_visible (refusals.ReaderUsed q) fits = all_visible (refusal_kinds refusal_words.ReaderUsed) (refusal_fields (refusals.ReaderUsed q))
+    ((q.0, fits, refl), tt)
+refusal_fields_visible (refusals.NoReader q) fits = all_visible (refusal_kinds refusal_words.NoReader) (refusal_fields (refusals.NoReader q))
+    ((q.0, fits, refl), tt)
+refusal_fields_visible (refusals.Range size) fits = all_visible (refusal_kinds refusal_words.Range) (refusal_fields (refusals.Range size))
+    ((size, fits, refl), tt)
 refusal_fields_visible refusals.UrlForm fits = all_visible (refusal_kinds refusal_words.UrlForm) (refusal_fields refusals.UrlForm) tt
 refusal_fields_visible refusals.UrlTaken fits = all_visible (refusal_kinds refusal_words.UrlTaken) (refusal_fields refusals.UrlTaken) tt
 refusal_fields_visible refusals.NoUrl fits = all_visible (refusal_kinds refusal_words.NoUrl) (refusal_fields refusals.NoUrl) tt
 refusal_fields_visible (refusals.NoJob j) fits = all_visible (refusal_kinds refusal_words.NoJob) (refusal_fields (refusals.NoJob j)) ((j.0, fits, refl), tt)
-refusal_fields_visible (refusals.StaleStamp last) fits = all_visible (refusal_kinds refusal_words.StaleStamp) (refusal_fields (refusals.StaleStamp last)) ((last, fits, refl), tt)
+refusal_fields_visible (refusals.StaleStamp last) fits = all_visible (refusal_kinds refusal_words.StaleStamp) (refusal_fields (refusals.StaleStamp last))
+    ((last, fits, refl), tt)
 refusal_fields_visible refusals.NoFile fits = all_visible (refusal_kinds refusal_words.NoFile) (refusal_fields refusals.NoFile) tt
 refusal_fields_visible (refusals.TooMany counted) fits = counted_visible counted
 refusal_fields_visible refusals.LimitsAgain fits = all_visible (refusal_kinds refusal_words.LimitsAgain) (refusal_fields refusals.LimitsAgain) tt
@@ -231,35 +246,58 @@ fields_visible : (answer : Answer) → HasText answer → AllByRecursion AreVisi
 fields_visible answers.Good fits = all_visible (kinds_of words.Good) (answer_fields answers.Good) tt
 fields_visible (answers.Refused refusal) fits = (refusal_word_visible (refusal_word_of refusal), refusal_fields_visible refusal fits)
 fields_visible (answers.Planned plan) fits = plan_fields_visible plan fits
-fields_visible (answers.Broken b status) fits = all_visible (kinds_of words.Broken) (answer_fields (answers.Broken b status)) ((b, fits.0, refl), ((status, fits.1, refl), tt))
+fields_visible (answers.Broken b status) fits = all_visible (kinds_of words.Broken) (answer_fields (answers.Broken b status))
+    ((b, fits.0, refl), ((status, fits.1, refl), tt))
 fields_visible (answers.Taken seg) fits = all_visible (kinds_of words.Taken) (answer_fields (answers.Taken seg)) ((seg, fits, refl), tt)
-fields_visible (answers.Stored f p) fits = all_visible (kinds_of words.Stored) (answer_fields (answers.Stored f p)) ((f.0, fits.0, refl), ((p.0, fits.1, refl), tt))
+fields_visible (answers.Stored f p) fits = all_visible (kinds_of words.Stored) (answer_fields (answers.Stored f p))
+    ((f.0, fits.0, refl), ((p.0, fits.1, refl), tt))
 fields_visible (answers.StoreFailed f) fits = all_visible (kinds_of words.StoreFailed) (answer_fields (answers.StoreFailed f)) ((f.0, fits, refl), tt)
-fields_visible (answers.Told b size kind status) fits = all_visible (kinds_of words.Told) (answer_fields (answers.Told b size kind status)) ((b, fits.0, refl), ((size, fits.1, refl), ((kind, fits.2.0, fits.2.1, refl), ((status, fits.3, refl), tt))))
+fields_visible (answers.Told b size kind status) fits = all_visible (kinds_of words.Told) (answer_fields (answers.Told b size kind status))
+    ((b, fits.0, refl), ((size, fits.1, refl), ((kind, fits.2.0, fits.2.1, refl), ((status, fits.3, refl), tt))))
 fields_visible answers.Revoked fits = all_visible (kinds_of words.Revoked) (answer_fields answers.Revoked) tt
 fields_visible answers.Nothing fits = all_visible (kinds_of words.Nothing) (answer_fields answers.Nothing) tt
-fields_visible (answers.Opened q size kind) fits = all_visible (kinds_of words.Opened) (answer_fields (answers.Opened q size kind)) ((q.0, fits.0, refl), ((size, fits.1, refl), ((kind, fits.2.0, fits.2.1, refl), tt)))
-fields_visible (answers.Given q octets) fits = all_visible (kinds_of words.Given) (answer_fields (answers.Given q octets)) ((q.0, fits.0, refl), ((octets, fits.1.0, fits.1.1, refl), tt))
+fields_visible (answers.Opened q size kind) fits = all_visible (kinds_of words.Opened) (answer_fields (answers.Opened q size kind))
+    ((q.0, fits.0, refl), ((size, fits.1, refl), ((kind, fits.2.0, fits.2.1, refl), tt)))
+fields_visible (answers.Given q octets) fits = all_visible (kinds_of words.Given) (answer_fields (answers.Given q octets))
+    ((q.0, fits.0, refl), ((octets, fits.1.0, fits.1.1, refl), tt))
 fields_visible (answers.Wait q) fits = all_visible (kinds_of words.Wait) (answer_fields (answers.Wait q)) ((q.0, fits, refl), tt)
-fields_visible (answers.Ended q status) fits = all_visible (kinds_of words.Ended) (answer_fields (answers.Ended q status)) ((q.0, fits.0, refl), ((status, fits.1, refl), tt))
-fields_visible (answers.FileChanged q file) fits = all_visible (kinds_of words.FileChanged) (answer_fields (answers.FileChanged q file)) ((q.0, fits.0, refl), (fits.1, tt))
-fields_visible (answers.PageFault q f) fits = all_visible (kinds_of words.PageFault) (answer_fields (answers.PageFault q f)) ((q.0, fits.0, refl), ((f.0, fits.1, refl), tt))
-fields_visible (answers.HandleFailed q k) fits = all_visible (kinds_of words.HandleFailed) (answer_fields (answers.HandleFailed q k)) ((q.0, fits.0, refl), ((k, fits.1, refl), tt))
-fields_visible (answers.Paged j f ps) fits = (spells_visible number_32 (decimal j.0) (j.0, fits.0, refl), (spells_visible number_32 (decimal f.0) (f.0, fits.1, refl), pieces_visible ps fits.2.1))
+fields_visible (answers.Ended q status) fits = all_visible (kinds_of words.Ended) (answer_fields (answers.Ended q status))
+    ((q.0, fits.0, refl), ((status, fits.1, refl), tt))
+fields_visible (answers.FileChanged q file) fits = all_visible (kinds_of words.FileChanged) (answer_fields (answers.FileChanged q file))
+    ((q.0, fits.0, refl), (fits.1, tt))
+fields_visible (answers.PageFault q f) fits = all_visible (kinds_of words.PageFault) (answer_fields (answers.PageFault q f))
+    ((q.0, fits.0, refl), ((f.0, fits.1, refl), tt))
+fields_visible (answers.HandleFailed q k) fits = all_visible (kinds_of words.HandleFailed) (answer_fields (answers.HandleFailed q k))
+    ((q.0, fits.0, refl), ((k, fits.1, refl), tt))
+fields_visible (answers.Paged j f ps) fits = (
+  spells_visible number_32 (decimal j.0) (j.0, fits.0, refl),
+  (spells_visible number_32 (decimal f.0) (f.0, fits.1, refl), pieces_visible ps fits.2.1),
+)
 fields_visible (answers.Empty j) fits = all_visible (kinds_of words.Empty) (answer_fields (answers.Empty j)) ((j.0, fits, refl), tt)
-fields_visible (answers.PageFailed j f) fits = all_visible (kinds_of words.PageFailed) (answer_fields (answers.PageFailed j f)) ((j.0, fits.0, refl), ((f.0, fits.1, refl), tt))
-fields_visible (answers.Moved j f ps) fits = (spells_visible number_32 (decimal j.0) (j.0, fits.0, refl), (spells_visible number_32 (decimal f.0) (f.0, fits.1, refl), pieces_visible ps fits.2.1))
-fields_visible (answers.MoveFailed j f) fits = all_visible (kinds_of words.MoveFailed) (answer_fields (answers.MoveFailed j f)) ((j.0, fits.0, refl), ((f.0, fits.1, refl), tt))
-fields_visible (answers.MoveUnread j f) fits = all_visible (kinds_of words.MoveUnread) (answer_fields (answers.MoveUnread j f)) ((j.0, fits.0, refl), ((f.0, fits.1, refl), tt))
+fields_visible (answers.PageFailed j f) fits = all_visible (kinds_of words.PageFailed) (answer_fields (answers.PageFailed j f))
+    ((j.0, fits.0, refl), ((f.0, fits.1, refl), tt))
+fields_visible (answers.Moved j f ps) fits = (
+  spells_visible number_32 (decimal j.0) (j.0, fits.0, refl),
+  (spells_visible number_32 (decimal f.0) (f.0, fits.1, refl), pieces_visible ps fits.2.1),
+)
+fields_visible (answers.MoveFailed j f) fits = all_visible (kinds_of words.MoveFailed) (answer_fields (answers.MoveFailed j f))
+    ((j.0, fits.0, refl), ((f.0, fits.1, refl), tt))
+fields_visible (answers.MoveUnread j f) fits = all_visible (kinds_of words.MoveUnread) (answer_fields (answers.MoveUnread j f))
+    ((j.0, fits.0, refl), ((f.0, fits.1, refl), tt))
 fields_visible (answers.LostJob j) fits = all_visible (kinds_of words.LostJob) (answer_fields (answers.LostJob j)) ((j.0, fits, refl), tt)
-fields_visible (answers.Held blobs urls readers waiting paging) fits = all_visible (kinds_of words.Held) (answer_fields (answers.Held blobs urls readers waiting paging)) ((blobs, fits.0, refl), ((urls, fits.1, refl), ((readers, fits.2, refl), ((waiting, fits.3, refl), ((paging, refl), tt)))))
+fields_visible (answers.Held blobs urls readers waiting paging) fits =
+    all_visible (kinds_of words.Held) (answer_fields (answers.Held blobs urls readers waiting paging))
+    ((blobs, fits.0, refl), ((urls, fits.1, refl), ((readers, fits.2, refl), ((waiting, fits.3, refl), ((paging, refl), tt)))))
 fields_visible (answers.Dropped b) fits = all_visible (kinds_of words.Dropped) (answer_fields (answers.Dropped b)) ((b, fits, refl), tt)
 fields_visible (answers.Done b) fits = all_visible (kinds_of words.Done) (answer_fields (answers.Done b)) ((b, fits, refl), tt)
 fields_visible (answers.Removed f) fits = all_visible (kinds_of words.Removed) (answer_fields (answers.Removed f)) ((f.0, fits, refl), tt)
 fields_visible (answers.Left f) fits = all_visible (kinds_of words.Left) (answer_fields (answers.Left f)) ((f.0, fits, refl), tt)
 fields_visible (answers.Granted b) fits = all_visible (kinds_of words.Granted) (answer_fields (answers.Granted b)) ((b, fits, refl), tt)
 fields_visible (answers.Job j ps) fits = (spells_visible number_32 (decimal j.0) (j.0, fits.0, refl), pieces_visible ps fits.1.1)
-fields_visible (answers.Compacting j f ps) fits = (spells_visible number_32 (decimal j.0) (j.0, fits.0, refl), (spells_visible number_32 (decimal f.0) (f.0, fits.1, refl), pieces_visible ps fits.2.1))
+fields_visible (answers.Compacting j f ps) fits = (
+  spells_visible number_32 (decimal j.0) (j.0, fits.0, refl),
+  (spells_visible number_32 (decimal f.0) (f.0, fits.1, refl), pieces_visible ps fits.2.1),
+)
 
 -- an answer's text is parted at its spaces into its word and its fields
 pub split-answer_text : (answer : Answer) → HasText answer → split 32 (answer_text answer) ≡ word_text (word_of answer) ∷ answer_fields answer
@@ -280,7 +318,8 @@ equals_visible : AreVisible (codes "=")
 equals_visible = literal_visible (codes "=") refl
 
 pub split-tally_text : (tally : Tally) → TallyHasText tally → split 32 (tally_text tally) ≡ codes "=" ∷ tally_fields tally
-split-tally_text tally fits = split-visible (codes "=") (tally_fields tally) equals_visible (all_visible tally_kinds (tally_fields tally) (tally_spelled tally fits))
+split-tally_text tally fits = split-visible (codes "=") (tally_fields tally) equals_visible
+    (all_visible tally_kinds (tally_fields tally) (tally_spelled tally fits))
 
 pub tally_feedless : (tally : Tally) → TallyHasText tally → has_feed (tally_text tally) ≡ false
 tally_feedless tally fits = feedless (codes "=") (tally_fields tally) equals_visible (all_visible tally_kinds (tally_fields tally) (tally_spelled tally fits))

@@ -45,7 +45,8 @@ same_switch true false same = cc same
 same_switch false true same = cc same
 same_switch false false same = refl
 
-same_pieces : (ps qs : List PieceNo) → AllByRecursion (λ (p : PieceNo). p.0 < 2 ^ 32) ps → AllByRecursion (λ (p : PieceNo). p.0 < 2 ^ 32) qs → piece_fields ps ≡ piece_fields qs → ps ≡ qs
+same_pieces : (ps qs : List PieceNo) → AllByRecursion (λ (p : PieceNo). p.0 < 2 ^ 32) ps → AllByRecursion (λ (p : PieceNo). p.0 < 2 ^ 32) qs → piece_fields ps
+    ≡ piece_fields qs → ps ≡ qs
 same_pieces [] [] fits less same = refl
 same_pieces [] (q ∷ qs) fits less same = cc same
 same_pieces (p ∷ ps) [] fits less same = cc same
@@ -122,7 +123,8 @@ plan_back p q fits fits' same = cc same
 
 answer_back : (a b : Answer) → HasText a → HasText b → word_of a ≡ word_of b → answer_fields a ≡ answer_fields b → a ≡ b
 answer_back answers.Good answers.Good fits fits' word same = refl
-answer_back (answers.Refused r) (answers.Refused s) fits fits' word same = ap answers.Refused (refusal_back r s fits fits' (same_refusal_word _ _ (first _ _ _ _ same)) (behind _ _ _ _ same))
+answer_back (answers.Refused r) (answers.Refused s) fits fits' word same =
+    ap answers.Refused (refusal_back r s fits fits' (same_refusal_word _ _ (first _ _ _ _ same)) (behind _ _ _ _ same))
 answer_back (answers.Planned p) (answers.Planned q) fits fits' word same = ap answers.Planned (plan_back p q fits fits' same)
 answer_back (answers.Broken b status) (answers.Broken b' status') fits fits' word same =
     let is_b : b ≡ b' = same_name b b' fits.0 fits'.0 (cc same) in
@@ -259,7 +261,8 @@ tally_injective t u fits fits' same =
 lines_back : (xs ys : List Answer) (t u : Tally) (r s : List ℕ) → AllByRecursion HasText xs → AllByRecursion HasText ys → TallyHasText t → TallyHasText u
     → flat_map answer_line xs ++ (tally_line t ++ r) ≡ flat_map answer_line ys ++ (tally_line u ++ s) → (xs ≡ ys) × (t ≡ u) × (r ≡ s)
 lines_back [] [] t u r s fits fits' fit fit' same =
-    let line = line_apart (tally_text t) (tally_text u) r s (tally_feedless t fit) (tally_feedless u fit') (sym (line_rest (tally_text t) r) ∙ same ∙ line_rest (tally_text u) s) in
+    let line = line_apart (tally_text t) (tally_text u) r s (tally_feedless t fit) (tally_feedless u fit')
+    (sym (line_rest (tally_text t) r) ∙ same ∙ line_rest (tally_text u) s) in
     (refl, tally_injective t u fit fit' line.0, line.1)
 lines_back [] (y ∷ ys) t u r s fits fits' fit fit' same =
     let line = line_apart (tally_text t) (answer_text y) r (flat_map answer_line ys ++ (tally_line u ++ s)) (tally_feedless t fit) (answer_feedless y fits'.0)
@@ -270,7 +273,8 @@ lines_back (x ∷ xs) [] t u r s fits fits' fit fit' same =
     (sym (answers_rest x xs (tally_line t ++ r)) ∙ same ∙ line_rest (tally_text u) s) in
     absurd (answer_no_tally x u fits.0 fit' line.0)
 lines_back (x ∷ xs) (y ∷ ys) t u r s fits fits' fit fit' same =
-    let line = line_apart (answer_text x) (answer_text y) (flat_map answer_line xs ++ (tally_line t ++ r)) (flat_map answer_line ys ++ (tally_line u ++ s)) (answer_feedless x fits.0) (answer_feedless y fits'.0)
+    let line = line_apart (answer_text x) (answer_text y) (flat_map answer_line xs ++ (tally_line t ++ r)) (flat_map answer_line ys ++ (tally_line u ++ s))
+    (answer_feedless x fits.0) (answer_feedless y fits'.0)
     (sym (answers_rest x xs (tally_line t ++ r)) ∙ same ∙ answers_rest y ys (tally_line u ++ s)) in
     let one : x ≡ y = answer_injective x y fits.0 fits'.0 line.0 in
     let more = lines_back xs ys t u r s fits.1 fits'.1 fit fit' line.1 in
@@ -282,7 +286,8 @@ line_behind e f same = cc same
 -- a text has one group in front
 pub groups_apart : (g h : Group) (r s : List ℕ) → GroupHasText g → GroupHasText h → group_text g ++ r ≡ group_text h ++ s → (g ≡ h) × (r ≡ s)
 groups_apart g h r s fits fits' same =
-    let line = line_apart (codes "> " ++ line_of g.event) (codes "> " ++ line_of h.event) (flat_map answer_line g.answers ++ (tally_line g.tally ++ r)) (flat_map answer_line h.answers ++ (tally_line h.tally ++ s))
+    let line = line_apart (codes "> " ++ line_of g.event) (codes "> " ++ line_of h.event) (flat_map answer_line g.answers ++ (tally_line g.tally ++ r))
+    (flat_map answer_line h.answers ++ (tally_line h.tally ++ s))
     (event_feedless g.event fits.0) (event_feedless h.event fits'.0)
     (sym (event_rest g.event (flat_map answer_line g.answers ++ (tally_line g.tally ++ r))) ∙ sym (group_rest g r) ∙ same ∙ group_rest h s
     ∙ event_rest h.event (flat_map answer_line h.answers ++ (tally_line h.tally ++ s))) in
@@ -291,7 +296,8 @@ groups_apart g h r s fits fits' same =
     let made : Event → List Answer → Tally → Group = λ e a t. record { event = e; answers = a; tally = t } in
     (group_same made g.event h.event g.answers h.answers g.tally h.tally is_event rest.0 rest.1, rest.2)
   where
-    group_same : (made : Event → List Answer → Tally → Group) (e e' : Event) (a a' : List Answer) (t t' : Tally) → e ≡ e' → a ≡ a' → t ≡ t' → made e a t ≡ made e' a' t'
+    group_same : (made : Event → List Answer → Tally → Group) (e e' : Event) (a a' : List Answer) (t t' : Tally) → e ≡ e' → a ≡ a' → t ≡ t' → made e a t
+        ≡ made e' a' t'
     group_same made e e' a a' t t' p q r = cc (p, q, r)
 
 group_some : (g : Group) (gs : List Group) → [] ≡ groups_text (g ∷ gs) → ⊥

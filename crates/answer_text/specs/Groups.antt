@@ -21,7 +21,8 @@ HasNoEvent text = (event : Event) (rest : List ℕ) → HasSpelling event → te
 -- no line of an answer or of a tally does
 abbrev pub HasNoFurther : List ℕ → Type 0
 HasNoFurther text =
-    ((answer : Answer) (rest : List ℕ) → HasText answer → text ≢ answer_line answer ++ rest) × ((tally : Tally) (rest : List ℕ) → TallyHasText tally → text ≢ tally_line tally ++ rest)
+    ((answer : Answer) (rest : List ℕ) → HasText answer → text ≢ answer_line answer ++ rest)
+    × ((tally : Tally) (rest : List ℕ) → TallyHasText tally → text ≢ tally_line tally ++ rest)
 
 -- the line of an event and those of some answers stand in front of the text, and no line that can stand behind them does
 pub record IsCut (text : List ℕ) (place : ℕ) : Type 0 where
@@ -58,7 +59,8 @@ ReadsEventLine line (Err faults.Memory) = Unit {0}
 abbrev pub ReadsFurther : List ℕ → Result Further TextFault → Type 0
 ReadsFurther line (Ok (furthers.Answer answer)) = HasText answer × (line ≡ answer_text answer)
 ReadsFurther line (Ok (furthers.Tally tally)) = TallyHasText tally × (line ≡ tally_text tally)
-ReadsFurther line (Err faults.Form) = ((answer : Answer) → HasText answer → line ≢ answer_text answer) × ((tally : Tally) → TallyHasText tally → line ≢ tally_text tally)
+ReadsFurther line (Err faults.Form) = ((answer : Answer) → HasText answer → line ≢ answer_text answer)
+    × ((tally : Tally) → TallyHasText tally → line ≢ tally_text tally)
 ReadsFurther line (Err faults.Memory) = Unit {0}
 
 -- the lines of some answers stand in front of what is left

@@ -14,4 +14,5 @@ ReadsAnswer word texts result = ReadsAs (IsAnswerFields word) (λ answer. HasTex
 
 -- the same of a refusal
 abbrev pub ReadsRefusal : RefusalWord → List (List ℕ) → Result Refusal TextFault → Type 0
-ReadsRefusal word texts result = ReadsAs (IsRefusalFields word) (λ refusal. RefusalHasText refusal × (refusal_word_of refusal ≡ word)) refusal_fields texts result
+ReadsRefusal word texts result = ReadsAs (IsRefusalFields word) (λ refusal. RefusalHasText refusal × (refusal_word_of refusal ≡ word)) refusal_fields texts
+    result

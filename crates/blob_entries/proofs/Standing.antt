@@ -32,7 +32,8 @@ pub next_is : (held : Option Entry) (name : ℕ) (rest : List ℕ) → is_some h
 next_is None name rest is = absurd (cc)
 next_is (Some entry) name rest is = refl
 
-pub later_is : (held : Option Entry) (name left : ℕ) (rest : List ℕ) → (is_some held ≡ true → 0 < left) → slice_get (name_if held name ++ rest) left ≡ slice_get rest (left - cond (is_some held) 1 0)
+pub later_is : (held : Option Entry) (name left : ℕ) (rest : List ℕ) → (is_some held ≡ true → 0 < left) → slice_get (name_if held name ++ rest) left
+    ≡ slice_get rest (left - cond (is_some held) 1 0)
 later_is None name left rest above = let same : left - 0 ≡ left = omega arith in rw same refl
 later_is (Some entry) name zero rest above = absurd (omega (arith, above refl))
 later_is (Some entry) name (suc left) rest above = let same : suc left - 1 ≡ left = omega arith in rw same refl

@@ -33,12 +33,14 @@ drop_range (suc k) a (suc n) =
 -- so many of the cells that are left, of which the first are of this view behind the place `skip`
 pub step : (view : View) (rest : List View) (skip left : ℕ) → skip < view.len
     → take left (drop skip (cells (view ∷ rest)))
-    ≡ map (λ (place : ℕ). (view.slot, place)) (range_with_len (view.off + skip) (min left (view.len - skip))) ++ take (left - min left (view.len - skip)) (cells rest)
+    ≡ map (λ (place : ℕ). (view.slot, place)) (range_with_len (view.off + skip) (min left (view.len - skip))) ++ take (left - min left (view.len - skip))
+    (cells rest)
 step view rest skip left within =
     let cell : ℕ → ℕ × ℕ = λ place. (view.slot, place) in
     let here = map cell (range_with_len (view.off + skip) (view.len - skip)) in
     let behind = cells rest in
-    let dropped : drop skip (view_cells view) ≡ here = drop-map cell skip (range_with_len view.off view.len) ∙ ap (map cell) (drop_range skip view.off view.len) in
+    let dropped : drop skip (view_cells view) ≡ here = drop-map cell skip (range_with_len view.off view.len) ∙ ap (map cell) (drop_range skip view.off view.len)
+    in
     let front : drop skip (view_cells view ++ behind) ≡ here ++ behind =
     drop-append-le skip (view_cells view) behind (omega (arith, within, length_view view)) ∙ ap (λ (xs : List (ℕ × ℕ)). xs ++ behind) dropped in
     let count : length here ≡ view.len - skip = length-map-range_with_len cell (view.off + skip) (view.len - skip) in
@@ -52,7 +54,8 @@ step view rest skip left within =
     let size : min left (view.len - skip) ≡ left = omega (arith, few) in
     let none : left - left ≡ 0 = omega arith in
     rw (size, none)
-    (take-append-le left here behind (omega (arith, few, count)) ∙ (take-map-range_with_len cell (view.off + skip) (view.len - skip) left few ∙ sym (append-nil (map cell (range_with_len (view.off + skip) left))))))
+    (take-append-le left here behind (omega (arith, few, count)) ∙
+    (take-map-range_with_len cell (view.off + skip) (view.len - skip) left few ∙ sym (append-nil (map cell (range_with_len (view.off + skip) left))))))
     (cases_lt (view.len - skip) left))
 
 pub cells_push : (views : List View) (view : View) → cells (views ++ view ∷ []) ≡ cells views ++ view_cells view

@@ -10,11 +10,13 @@ use Rattle.blob_items.proofs.StartLemmas.{total-cons}
 use Rattle.blob_items.proofs.CellLemmas.{length_cells, step, cells_push}
 
 -- behind a place stand the cells that its view has behind it, and those of the views that follow
-pub cells_behind : (views : List View) (off first skip : ℕ) → total (take first views) + skip ≡ off → drop off (cells views) ≡ drop skip (cells (drop first views))
+pub cells_behind : (views : List View) (off first skip : ℕ) → total (take first views) + skip ≡ off → drop off (cells views)
+    ≡ drop skip (cells (drop first views))
 cells_behind views off first skip before =
     let front = cells (take first views) in
     let back = cells (drop first views) in
-    let parts : cells views ≡ front ++ back = ap cells (sym (take-append-drop first views)) ∙ flat_map-append view_cells (take first views) (drop first views) in
+    let parts : cells views ≡ front ++ back = ap cells (sym (take-append-drop first views)) ∙ flat_map-append view_cells (take first views) (drop first views)
+    in
     let place : off ≡ length front + skip = omega (arith, before, length_cells (take first views)) in
     rw (parts, place, ← drop-drop) (ap (drop skip) (drop_at front back (length front) refl))
 
@@ -45,13 +47,15 @@ view_there views place skip within =
     absurd (omega (arith, none, within)))
     (cases_lt place (length views))
 
-pub view_within : (views : List View) (place skip : ℕ) (view : View) → place < length views → view ≡ get_or views place view → skip < total (take 1 (drop place views)) → skip < view.len
+pub view_within : (views : List View) (place skip : ℕ) (view : View) → place < length views → view ≡ get_or views place view
+    → skip < total (take 1 (drop place views)) → skip < view.len
 view_within views place skip view inside is within =
     let here : drop place views ≡ view ∷ drop (place + 1) views = drop_more views place view inside ∙ ap (λ (v : View). v ∷ drop (place + 1) views) (sym is) in
     let same : total (take 1 (drop place views)) ≡ total (view ∷ []) = ap (λ (xs : List View). total (take 1 xs)) here in
     omega (arith, within, same, total-cons view [])
 
-pub total_left : (views : List View) (place : ℕ) (view : View) → place < length views → view ≡ get_or views place view → total (drop place views) ≡ view.len + total (drop (place + 1) views)
+pub total_left : (views : List View) (place : ℕ) (view : View) → place < length views → view ≡ get_or views place view → total (drop place views)
+    ≡ view.len + total (drop (place + 1) views)
 total_left views place view inside is =
     sum_by-drop_more (λ (v : View). v.len) views place view inside ∙ ap (λ (v : View). v.len + total (drop (place + 1) views)) (sym is)
 

@@ -22,7 +22,8 @@ pub place_found : (views : List View) (off count start : ℕ) → off < total vi
     → start ≡ get_or (starts_from 0 views) (count - 1) start
     → (start ≤ off) × IsPlaceOf views off (count - 1, off - start)
 place_found views off count start inside some bound point is =
-    let at : get_or (starts_from 0 views) (count - 1) start ≡ 0 + total (take (count - 1) views) = start_at 0 (count - 1) views start (omega (arith, some, bound)) in
+    let at : get_or (starts_from 0 views) (count - 1) start ≡ 0 + total (take (count - 1) views) =
+    start_at 0 (count - 1) views start (omega (arith, some, bound)) in
     let before : get_or (starts_from 0 views) (count - 1) start ≤ off = leb-true _ _ (point.0 (count - 1) start (omega arith) (omega (arith, some))) in
     let next : count - 1 + 1 ≡ count = omega (arith, some) in
     let within : off < total (take count views) =
@@ -44,7 +45,8 @@ place_found views off count start inside some bound point is =
 module _ (views : List View) (starts : List ℕ) (off count : ℕ) (kept : starts ≡ starts_from 0 views) (inside : off < total views) where
   pub kept_begun : IsPartitionPoint (λ (s : ℕ). leb s off ≡ true) (λ (s : ℕ). leb s off ≡ false) starts count → 1 ≤ count
   kept_begun point =
-      some_begun views off count inside (subst (λ (xs : List ℕ). IsPartitionPoint (λ (s : ℕ). leb s off ≡ true) (λ (s : ℕ). leb s off ≡ false) xs count) kept point)
+      some_begun views off count inside (subst (λ (xs : List ℕ). IsPartitionPoint (λ (s : ℕ). leb s off ≡ true) (λ (s : ℕ). leb s off ≡ false) xs count) kept
+      point)
 
   pub kept_found : (start : ℕ) → 1 ≤ count → count ≤ length starts → IsPartitionPoint (λ (s : ℕ). leb s off ≡ true) (λ (s : ℕ). leb s off ≡ false) starts count
       → start ≡ get_or starts (count - 1) start → (start ≤ off) × IsPlaceOf views off (count - 1, off - start)

@@ -48,6 +48,7 @@ pub more_starts : (place i : ℕ) (views : List View) (view : View) → i < leng
 more_starts place i views view within is =
     ap (starts_from place) (take_more views i view within) ∙ append_starts place (take i views) (get_or views i view ∷ [])
 
-pub more_total : (i : ℕ) (views : List View) (view : View) → i < length views → view ≡ get_or views i view → total (take (i + 1) views) ≡ total (take i views) + view.len
+pub more_total : (i : ℕ) (views : List View) (view : View) → i < length views → view ≡ get_or views i view → total (take (i + 1) views) ≡ total (take i views) +
+    view.len
 more_total i views view within is =
     sum_by_more (λ (v : View). v.len) views i view within ∙ ap (λ (v : View). total (take i views) + v.len) (sym is)

@@ -48,7 +48,8 @@ pub all_numbered : {X : Type 0} (number : X → ℕ) (xs : List X) → AllByRecu
 all_numbered number [] = tt
 all_numbered {X = X} number (x ∷ xs) = (
   or_first (number x == number x) (list_any (λ (each : X). number each == number x) xs) (eq-eqb (number x) (number x) refl),
-  for_each (λ (y : X). list_any (λ (each : X). number each == number y) xs ≡ true) (λ (y : X). list_any (λ (each : X). number each == number y) (x ∷ xs) ≡ true) xs
+  for_each (λ (y : X). list_any (λ (each : X). number each == number y) xs ≡ true) (λ (y : X). list_any (λ (each : X). number each == number y) (x ∷ xs) ≡ true)
+      xs
       (λ y e. or_second (number x == number y) (list_any (λ (each : X). number each == number y) xs) e) (all_numbered number xs),
 )
 
@@ -63,7 +64,9 @@ or_cases false y e = inr e
 pub any_append_first : {X : Type 0} (test : X → Bool) (xs ys : List X) → list_any test xs ≡ true → list_any test (xs ++ ys) ≡ true
 any_append_first test [] ys e = absurd (false_true e)
 any_append_first test (x ∷ xs) ys e =
-    ⊎_elim (λ (here : test x ≡ true). or_first (test x) (list_any test (xs ++ ys)) here) (λ (more : list_any test xs ≡ true). or_second (test x) (list_any test (xs ++ ys)) (any_append_first test xs ys more)) (or_cases (test x) (list_any test xs) e)
+    ⊎_elim (λ (here : test x ≡ true). or_first (test x) (list_any test (xs ++ ys)) here)
+    (λ (more : list_any test xs ≡ true). or_second (test x) (list_any test (xs ++ ys)) (any_append_first test xs ys more))
+    (or_cases (test x) (list_any test xs) e)
 
 pub any_append_second : {X : Type 0} (test : X → Bool) (xs ys : List X) → list_any test ys ≡ true → list_any test (xs ++ ys) ≡ true
 any_append_second test [] ys e = e
@@ -86,18 +89,23 @@ pub any_filtered : {X : Type 0} (test keep : X → Bool) (xs : List X) → list_
 any_filtered test keep [] e = e
 any_filtered {X = X} test keep (x ∷ xs) e = go (keep x) e (any_filtered test keep xs)
   where
-    go : (b : Bool) → list_any test (cond b (x ∷ filter keep xs) (filter keep xs)) ≡ true → (list_any test (filter keep xs) ≡ true → list_any test xs ≡ true) → (test x || list_any test xs) ≡ true
-    go true f rest = ⊎_elim (λ (here : test x ≡ true). or_first (test x) (list_any test xs) here) (λ (more : list_any test (filter keep xs) ≡ true). or_second (test x) (list_any test xs) (rest more)) (or_cases (test x) (list_any test (filter keep xs)) f)
+    go : (b : Bool) → list_any test (cond b (x ∷ filter keep xs) (filter keep xs)) ≡ true → (list_any test (filter keep xs) ≡ true → list_any test xs ≡ true)
+        → (test x || list_any test xs) ≡ true
+    go true f rest = ⊎_elim (λ (here : test x ≡ true). or_first (test x) (list_any test xs) here)
+        (λ (more : list_any test (filter keep xs) ≡ true). or_second (test x) (list_any test xs) (rest more))
+        (or_cases (test x) (list_any test (filter keep xs)) f)
     go false f rest = or_second (test x) (list_any test xs) (rest f)
 
 pub any_up : {X : Type 0} (p q : X → Bool) (xs : List X) → ((x : X) → p x ≡ true → q x ≡ true) → list_any p xs ≡ true → list_any q xs ≡ true
 any_up p q [] up e = absurd (false_true e)
 any_up p q (x ∷ xs) up e =
-    ⊎_elim (λ (here : p x ≡ true). or_first (q x) (list_any q xs) (up x here)) (λ (more : list_any p xs ≡ true). or_second (q x) (list_any q xs) (any_up p q xs up more)) (or_cases (p x) (list_any p xs) e)
+    ⊎_elim (λ (here : p x ≡ true). or_first (q x) (list_any q xs) (up x here))
+    (λ (more : list_any p xs ≡ true). or_second (q x) (list_any q xs) (any_up p q xs up more)) (or_cases (p x) (list_any p xs) e)
 
 pub some_of : {X : Type 0} (test : X → Bool) (xs : List X) → list_any test xs ≡ true → (x : X) × (test x ≡ true)
 some_of test [] e = absurd (false_true e)
-some_of test (x ∷ xs) e = ⊎_elim (λ (here : test x ≡ true). (x, here)) (λ (more : list_any test xs ≡ true). some_of test xs more) (or_cases (test x) (list_any test xs) e)
+some_of test (x ∷ xs) e = ⊎_elim (λ (here : test x ≡ true). (x, here)) (λ (more : list_any test xs ≡ true). some_of test xs more)
+    (or_cases (test x) (list_any test xs) e)
 
 pub filter_same : {X : Type 0} (p q : X → Bool) (xs : List X) → ((x : X) → p x ≡ q x) → filter p xs ≡ filter q xs
 filter_same p q [] same = refl
@@ -141,7 +149,9 @@ found_all {X = X} P test (y ∷ list) x all e = go (test y) e (found_all P test 
 pub member_has : (P : ℕ → Type 0) (list : List ℕ) (n : ℕ) → AllByRecursion P list → list_any (λ (each : ℕ). each == n) list ≡ true → P n
 member_has P [] n all e = absurd (false_true e)
 member_has P (x ∷ list) n all e =
-    ⊎_elim (λ (here : (x == n) ≡ true). subst P (eqb-true x n here) all.0) (λ (more : list_any (λ (each : ℕ). each == n) list ≡ true). member_has P list n all.1 more) (or_cases (x == n) (list_any (λ (each : ℕ). each == n) list) e)
+    ⊎_elim (λ (here : (x == n) ≡ true). subst P (eqb-true x n here) all.0)
+    (λ (more : list_any (λ (each : ℕ). each == n) list ≡ true). member_has P list n all.1 more)
+    (or_cases (x == n) (list_any (λ (each : ℕ). each == n) list) e)
 
 -- the first list is the second without some items
 pub data PartOf : List ℕ → List ℕ → Type 0 where
@@ -154,7 +164,8 @@ pub part_any : (test : ℕ → Bool) (ys xs : List ℕ) → PartOf ys xs → lis
 part_any test some whole over e = e
 part_any test some whole (skips x ys xs part) e = or_second (test x) (list_any test xs) (part_any test ys xs part e)
 part_any test some whole (keeps x ys xs part) e =
-    ⊎_elim (λ (here : test x ≡ true). or_first (test x) (list_any test xs) here) (λ (more : list_any test ys ≡ true). or_second (test x) (list_any test xs) (part_any test ys xs part more)) (or_cases (test x) (list_any test ys) e)
+    ⊎_elim (λ (here : test x ≡ true). or_first (test x) (list_any test xs) here)
+    (λ (more : list_any test ys ≡ true). or_second (test x) (list_any test xs) (part_any test ys xs part more)) (or_cases (test x) (list_any test ys) e)
 
 -- and no longer
 pub part_length : (ys xs : List ℕ) → PartOf ys xs → length ys ≤ length xs
@@ -228,11 +239,13 @@ get_there (x ∷ xs) zero low = (x, refl)
 get_there (x ∷ xs) (suc k) low = get_there xs k (omega (arith, low))
 
 -- what passes a filter has what all have, and passes the test
-pub filter_has : {X : Type 0} (P : X → Type 0) (test : X → Bool) (xs : List X) → AllByRecursion P xs → AllByRecursion (λ (x : X). P x × (test x ≡ true)) (filter test xs)
+pub filter_has : {X : Type 0} (P : X → Type 0) (test : X → Bool) (xs : List X) → AllByRecursion P xs → AllByRecursion (λ (x : X). P x × (test x ≡ true))
+    (filter test xs)
 filter_has P test [] all = tt
 filter_has {X = X} P test (x ∷ xs) all = go (test x) refl (filter_has P test xs all.1)
   where
-    go : (b : Bool) → test x ≡ b → AllByRecursion (λ (y : X). P y × (test y ≡ true)) (filter test xs) → AllByRecursion (λ (y : X). P y × (test y ≡ true)) (cond b (x ∷ filter test xs) (filter test xs))
+    go : (b : Bool) → test x ≡ b → AllByRecursion (λ (y : X). P y × (test y ≡ true)) (filter test xs) → AllByRecursion (λ (y : X). P y × (test y ≡ true))
+        (cond b (x ∷ filter test xs) (filter test xs))
     go true at rest = ((all.0, at), rest)
     go false at rest = rest
 
@@ -250,7 +263,8 @@ pub each_any : {X : Type 0} (test : X → Bool) (xs : List X) → AllByRecursion
 each_any test [] = tt
 each_any {X = X} test (x ∷ xs) = (
   (λ e. or_first (test x) (list_any test xs) e),
-  for_each (λ (y : X). test y ≡ true → list_any test xs ≡ true) (λ (y : X). test y ≡ true → list_any test (x ∷ xs) ≡ true) xs (λ y f e. or_second (test x) (list_any test xs) (f e)) (each_any test xs),
+  for_each (λ (y : X). test y ≡ true → list_any test xs ≡ true) (λ (y : X). test y ≡ true → list_any test (x ∷ xs) ≡ true) xs
+      (λ y f e. or_second (test x) (list_any test xs) (f e)) (each_any test xs),
 )
 
 -- what all have those have that pass a filter
@@ -262,7 +276,8 @@ pub all_members : (xs : List ℕ) → AllByRecursion (λ (n : ℕ). list_any (λ
 all_members [] = tt
 all_members (x ∷ xs) = (
   or_first (x == x) (list_any (λ (each : ℕ). each == x) xs) (eq-eqb x x refl),
-  for_each (λ (n : ℕ). list_any (λ (each : ℕ). each == n) xs ≡ true) (λ (n : ℕ). list_any (λ (each : ℕ). each == n) (x ∷ xs) ≡ true) xs (λ n e. or_second (x == n) (list_any (λ (each : ℕ). each == n) xs) e) (all_members xs),
+  for_each (λ (n : ℕ). list_any (λ (each : ℕ). each == n) xs ≡ true) (λ (n : ℕ). list_any (λ (each : ℕ). each == n) (x ∷ xs) ≡ true) xs
+      (λ n e. or_second (x == n) (list_any (λ (each : ℕ). each == n) xs) e) (all_members xs),
 )
 
 -- what is found passes a filter that it passes
@@ -274,11 +289,13 @@ found_filter {X = X} p test (y ∷ xs) x e f = go (p y) refl e (found_filter p t
     keep true at g = ap (λ (b : Bool). cond b (Some y) (find p (filter test xs))) at ∙ g
     keep false at g = g
 
-    go : (b : Bool) → p y ≡ b → cond b (Some y) (find p xs) ≡ Some x → (find p xs ≡ Some x → test x ≡ true → find p (filter test xs) ≡ Some x) → find p (cond (test y) (y ∷ filter test xs) (filter test xs)) ≡ Some x
+    go : (b : Bool) → p y ≡ b → cond b (Some y) (find p xs) ≡ Some x → (find p xs ≡ Some x → test x ≡ true → find p (filter test xs) ≡ Some x)
+        → find p (cond (test y) (y ∷ filter test xs) (filter test xs)) ≡ Some x
     go true at g rest =
         let same : y ≡ x = cc in
         let passes : test y ≡ true = ap test same ∙ f in
-        (λ i. find p (cond (passes i) (y ∷ filter test xs) (filter test xs))) ∙ (λ i. cond (at i) (Some y) (find p (filter test xs))) ∙ ap (λ (z : X). Some z) same
+        (λ i. find p (cond (passes i) (y ∷ filter test xs) (filter test xs))) ∙ (λ i. cond (at i) (Some y) (find p (filter test xs))) ∙ ap (λ (z : X). Some z)
+        same
     go false at g rest = keep (test y) at (rest g f)
 
 pub found_some : {X : Type 0} (p : X → Bool) (xs : List X) (x : X) → find p xs ≡ Some x → list_any p xs ≡ true
@@ -297,11 +314,14 @@ pub among_filter : (test : ℕ → Bool) (list : List ℕ) (n : ℕ) → is_amon
 among_filter test [] n e f = e
 among_filter test (x ∷ list) n e f = go (test x) refl (λ more. among_filter test list n more f)
   where
-    go : (b : Bool) → test x ≡ b → (is_among n list ≡ true → is_among n (filter test list) ≡ true) → is_among n (cond b (x ∷ filter test list) (filter test list)) ≡ true
+    go : (b : Bool) → test x ≡ b → (is_among n list ≡ true → is_among n (filter test list) ≡ true)
+        → is_among n (cond b (x ∷ filter test list) (filter test list)) ≡ true
     go true at rest =
-        ⊎_elim (λ (here : (x == n) ≡ true). or_first (x == n) (is_among n (filter test list)) here) (λ (more : is_among n list ≡ true). or_second (x == n) (is_among n (filter test list)) (rest more)) (or_cases (x == n) (is_among n list) e)
+        ⊎_elim (λ (here : (x == n) ≡ true). or_first (x == n) (is_among n (filter test list)) here)
+        (λ (more : is_among n list ≡ true). or_second (x == n) (is_among n (filter test list)) (rest more)) (or_cases (x == n) (is_among n list) e)
     go false at rest =
-        ⊎_elim (λ (here : (x == n) ≡ true). absurd (false_true (sym (ap test (sym (eqb-true x n here)) ∙ at) ∙ f))) (λ (more : is_among n list ≡ true). rest more) (or_cases (x == n) (is_among n list) e)
+        ⊎_elim (λ (here : (x == n) ≡ true). absurd (false_true (sym (ap test (sym (eqb-true x n here)) ∙ at) ∙ f)))
+        (λ (more : is_among n list ≡ true). rest more) (or_cases (x == n) (is_among n list) e)
 
 -- a filter keeps all, or fewer
 pub keeps_or_fewer : (test : ℕ → Bool) (list : List ℕ) → (filter test list ≡ list) ⊎ (length (filter test list) < length list)
@@ -316,7 +336,8 @@ keeps_or_fewer test (x ∷ list) = go (test x) (keeps_or_fewer test list)
         pick true rest = omega (arith, rest)
         pick false rest = omega (arith, rest)
 
-    go : (b : Bool) → (filter test list ≡ list) ⊎ (length (filter test list) < length list) → (cond b (x ∷ filter test list) (filter test list) ≡ x ∷ list) ⊎ (length (cond b (x ∷ filter test list) (filter test list)) < length (x ∷ list))
+    go : (b : Bool) → (filter test list ≡ list) ⊎ (length (filter test list) < length list) → (cond b (x ∷ filter test list) (filter test list) ≡ x ∷ list)
+        ⊎ (length (cond b (x ∷ filter test list) (filter test list)) < length (x ∷ list))
     go true (inl same) = inl (ap (λ (xs : List ℕ). x ∷ xs) same)
     go true (inr fewer) = inr (omega (arith, fewer))
     go false one = let low = short list in inr (omega (arith, low))
@@ -353,7 +374,8 @@ pub find_append : {X : Type 0} (test : X → Bool) (xs ys : List X) (x : X) → 
 find_append test [] ys x e = cc
 find_append {X = X} test (y ∷ xs) ys x e = go (test y) e (find_append test xs ys x)
   where
-    go : (b : Bool) → cond b (Some y) (find test xs) ≡ Some x → (find test xs ≡ Some x → find test (xs ++ ys) ≡ Some x) → cond b (Some y) (find test (xs ++ ys)) ≡ Some x
+    go : (b : Bool) → cond b (Some y) (find test xs) ≡ Some x → (find test xs ≡ Some x → find test (xs ++ ys) ≡ Some x) → cond b (Some y) (find test (xs ++ ys))
+        ≡ Some x
     go true f rest = f
     go false f rest = rest f
 
@@ -365,13 +387,15 @@ apart_distinct (x ∷ list) apart = (others list apart.0, apart_distinct list ap
   where
     others : (xs : List ℕ) → list_any (λ (each : ℕ). each == x) xs ≡ false → AllByRecursion (λ (y : ℕ). (x == y) ≡ false) xs
     others [] e = tt
-    others (y ∷ xs) e = let parts = or_parts (y == x) (list_any (λ (each : ℕ). each == x) xs) e in (ne_eqb x y (λ same. eqb-false y x parts.0 (sym same)), others xs parts.1)
+    others (y ∷ xs) e = let parts = or_parts (y == x) (list_any (λ (each : ℕ). each == x) xs) e in
+        (ne_eqb x y (λ same. eqb-false y x parts.0 (sym same)), others xs parts.1)
 
 pub any_turned : (n : ℕ) (list : List ℕ) → list_any (λ (each : ℕ). n == each) list ≡ true → list_any (λ (each : ℕ). each == n) list ≡ true
 any_turned n [] e = e
 any_turned n (x ∷ list) e =
     ⊎_elim (λ (here : (n == x) ≡ true). or_first (x == n) (list_any (λ (each : ℕ). each == n) list) (eq-eqb x n (sym (eqb-true n x here))))
-    (λ (more : list_any (λ (each : ℕ). n == each) list ≡ true). or_second (x == n) (list_any (λ (each : ℕ). each == n) list) (any_turned n list more)) (or_cases (n == x) (list_any (λ (each : ℕ). n == each) list) e)
+    (λ (more : list_any (λ (each : ℕ). n == each) list ≡ true). or_second (x == n) (list_any (λ (each : ℕ). each == n) list) (any_turned n list more))
+    (or_cases (n == x) (list_any (λ (each : ℕ). n == each) list) e)
 
 -- numbers that differ, each below a bound, are at most so many
 pub few_below : (list : List ℕ) (most : ℕ) → AreApart list → ((n : ℕ) → list_any (λ (each : ℕ). each == n) list ≡ true → n < most) → length list ≤ most

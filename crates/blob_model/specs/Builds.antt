@@ -1,4 +1,5 @@
--- The blobs of a session, each with what was named when it was built. File API: a Blob stands for the bytes of its parts, in order, and a slice for a range of its source's.
+-- The blobs of a session, each with what was named when it was built. File API: a Blob stands for the bytes of its parts, in order, and a slice for a range of
+-- its source's.
 use Rattle.std.specs.Prelude.{ℕ, ◌+◌, ◌==◌, List, [], ◌∷◌, ◌++◌, length, map, take, drop, min, sum_by, find, Option, None, Some, ℤ}
 use Rattle.std.specs.Option.{option_map_or}
 use Rattle.std.specs.List.{range_with_len}
@@ -21,7 +22,8 @@ pub data Cell : Type 0 where
   filed : (name : List ℕ) (stamp index : ℕ) → Cell
   lent : (slot index : ℕ) → Cell
 
--- a blob: its name, its builder, the content type that is kept, its parts, the plan of its own bytes (none where the blob broke at its own line), its weight, and its cells
+-- a blob: its name, its builder, the content type that is kept, its parts, the plan of its own bytes (none where the blob broke at its own line), its weight,
+-- and its cells
 pub record Build : Type 0 where
   pub name : ℕ
   pub builder : ℕ
@@ -70,7 +72,8 @@ cells_of builds name from (FileRange file off len stamp ∷ parts) = file_cells 
 cells_of builds name from (BlobRange b off len ∷ parts) = take len (drop off (cells_in builds b)) ++ cells_of builds name from parts
 cells_of builds name from (HandleRange k off len ∷ parts) = handle_cells k off len ++ cells_of builds name from parts
 
--- the weight of a part bounds its views: the pieces of an own part, 1 for a range of a file or a handle that isn't empty, the source's weight or the length for a part of a blob
+-- the weight of a part bounds its views: the pieces of an own part, 1 for a range of a file or a handle that isn't empty, the source's weight or the length for
+-- a part of a blob
 abbrev pub part_weight : ℕ → List Build → Part → ℕ
 part_weight page builds (Embedded bytes) = div_ceil (length bytes) page
 part_weight page builds (Asked len) = div_ceil len page

@@ -6,7 +6,7 @@ use Rattle.session_script.specs.declared.event.Event.{Event}
 use Rattle.session_script.specs.declared.event.Event.TheVariants as events
 use Rattle.answer_text.specs.declared.answer.Answer.{Answer}
 use Rattle.answer_text.specs.declared.answer.Answer.TheVariants as answers
-use Rattle.blob_model.specs.Session.{Session}
+use Rattle.blob_model.specs.Session.{Session, page_limit}
 use Rattle.blob_model.specs.History.{History, start, heard, refused, said}
 use Rattle.blob_model.specs.Builds.{sent}
 use Rattle.blob_model.specs.Readers.{OpenReader, reader_at}
@@ -28,7 +28,7 @@ piece_bytes s h piece = filter_map (λ (index : ℕ). value s h (sent piece.blob
 
 -- the bytes of the piece of this number
 abbrev pub numbered_bytes : Session → History → ℕ → List ℕ
-numbered_bytes s h number = option_map_or (piece_bytes s h) (find (λ (piece : Piece). piece.number == number) (pieces s.limits.page h)) []
+numbered_bytes s h number = option_map_or (piece_bytes s h) (find (λ (piece : Piece). piece.number == number) (pieces (page_limit s) h)) []
 
 abbrev pub list_bytes : Session → History → List ℕ → List ℕ
 list_bytes s h list = flat_map (numbered_bytes s h) list
@@ -73,10 +73,10 @@ closing is_left list = map (λ (page : ℕ). elim (is_left page) [ true ↦ leav
 -- the bytes that a line gives of pieces in page files
 abbrev pub paged_cells : Session → History → Option OpenReader → ℕ
 paged_cells s h None = 0
-paged_cells s h (Some reader) = count_by (is_paged s.limits.page h) (chunk s.limits h reader)
+paged_cells s h (Some reader) = count_by (is_paged (page_limit s) h) (chunk s.limits h reader)
 
 abbrev pub page_bytes_after : Session → History → Event → Answer → ℕ → ℕ
-page_bytes_after s h (events.Step reader) (answers.Given number bytes) before = before + paged_cells s h (reader_at s.limits.page h reader.0)
+page_bytes_after s h (events.Step reader) (answers.Given number bytes) before = before + paged_cells s h (reader_at (page_limit s) h reader.0)
 page_bytes_after s h event answer before = before
 
 -- the bytes given of pieces that were in a page file by then: at least so many are read from the disk

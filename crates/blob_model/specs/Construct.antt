@@ -13,7 +13,7 @@ use Rattle.answer_text.specs.declared.answer.Answer.TheVariants as answers
 use Rattle.transport_plan.specs.declared.input.PlanInput.{PlanInput}
 use Rattle.transport_plan.specs.Plan.{plan_of}
 use Rattle.transport_plan.specs.Spans.{piece_count}
-use Rattle.blob_model.specs.Session.{Slot, Outside, Session}
+use Rattle.blob_model.specs.Session.{Slot, Outside, Session, page_limit}
 use Rattle.blob_model.specs.History.{History}
 use Rattle.blob_model.specs.Recorded.{recorded}
 use Rattle.blob_model.specs.Parts.{parts_length, own_lengths, embedded, own_bytes, sources}
@@ -31,7 +31,8 @@ slot_size outside slot = option_map_or (λ (object : Slot). object.size) (slice_
 
 -- a part is invalid where it names the blob itself, or a range that passes a blob or an object
 abbrev pub is_invalid : Session → History → ℕ → ℕ → Part → Bool
-is_invalid s h renderer name (BlobRange b off len) = (b == name) || (has_handle h renderer b && not (is_broken h b) && nat_lt (size_in (builds s.limits.page h) b) (off + len))
+is_invalid s h renderer name (BlobRange b off len) = (b == name)
+    || (has_handle h renderer b && not (is_broken h b) && nat_lt (size_in (builds (page_limit s) h) b) (off + len))
 is_invalid s h renderer name (HandleRange k off len) = nat_lt (slot_size s.outside k) (off + len)
 is_invalid s h renderer name part = false
 
@@ -49,11 +50,11 @@ abbrev pub plan_input : Session → History → List Part → PlanInput
 plan_input s h parts = record {
   embedded = length (embedded parts);
   asked = own_bytes parts - length (embedded parts);
-  pieces = piece_count s.limits.page (own_lengths parts);
-  waiting = nat_lt 0 (length (waits s.limits.page h));
+  pieces = piece_count (page_limit s) (own_lengths parts);
+  waiting = nat_lt 0 (length (waits (page_limit s) h));
   paging = paging h;
-  memory_used = memory s.limits.page h;
-  disk_used = disk s.limits.page h;
+  memory_used = memory (page_limit s) h;
+  disk_used = disk (page_limit s) h;
   limits = s.limits;
 }
 

@@ -1,4 +1,5 @@
--- Blob URLs. File API: a URL is resolved without its fragment; the entries of an environment end with it. The environment of a URL is its renderer, which alone revokes it: own.
+-- Blob URLs. File API: a URL is resolved without its fragment; the entries of an environment end with it. The environment of a URL is its renderer, which alone
+-- revokes it: own.
 use Rattle.std.specs.Prelude.{ℕ, ◌==◌, ◌&&◌, ◌||◌, Bool, not, List, [], ◌∷◌, ◌++◌, length, take, drop, take_while, filter, find, Option, bytes_eq, codes, nat_le}
 use Rattle.std.specs.List.{list_any, list_all, enumerate_from}
 use Rattle.session_script.specs.declared.event.Event.{Event}

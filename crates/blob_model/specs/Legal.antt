@@ -8,7 +8,7 @@ use Rattle.session_script.specs.declared.event.Event.TheVariants as events
 use Rattle.answer_text.specs.declared.answer.Answer.{Answer}
 use Rattle.answer_text.specs.declared.answer.Answer.TheVariants as answers
 use Rattle.answer_text.specs.declared.group.Group.{Group}
-use Rattle.blob_model.specs.Session.{Outside, Session}
+use Rattle.blob_model.specs.Session.{Outside, Session, page_limit}
 use Rattle.blob_model.specs.History.{History, start, after, has_ended}
 use Rattle.blob_model.specs.Tally.{tally}
 use Rattle.blob_model.specs.Settle.{settle}
@@ -23,13 +23,14 @@ left_file answer = []
 abbrev pub left_files : List Answer → List ℕ
 left_files list = flat_map left_file list
 
--- a group after a history: no line comes after the `end` line; the line's own answers come first, then what was owed, all of it; and the tally counts what is reached then
+-- a group after a history: no line comes after the `end` line; the line's own answers come first, then what was owed, all of it; and the tally counts what is
+-- reached then
 pub record IsLegalGroup (s : Session) (h : History) (group : Group) : Type 0 where
   pub open_still : has_ended h ≡ false
   pub own : List Answer
   pub is_own : IsOwn s h group.event own
   pub settles : group.answers ≡ own ++ settle s (left_files group.answers) (after h group.event own)
-  pub counts : group.tally ≡ tally s.limits.page (after h group.event group.answers)
+  pub counts : group.tally ≡ tally (page_limit s) (after h group.event group.answers)
 
 -- groups after a history
 abbrev pub IsLegalFrom : Session → History → List Group → Type 0

@@ -4,7 +4,7 @@ use Rattle.std.specs.List.{AllByRecursion, list_all}
 use Rattle.answer_text.specs.declared.answer.Answer.{Answer}
 use Rattle.answer_text.specs.declared.group.Group.{Group}
 use Rattle.session_script.specs.declared.event.Event.{Event}
-use Rattle.blob_model.specs.Session.{Slot, Outside, Session}
+use Rattle.blob_model.specs.Session.{Slot, Outside, Session, page_limit}
 use Rattle.blob_model.specs.History.{History, history_from}
 use Rattle.blob_model.specs.Builds.{builds}
 use Rattle.blob_model.specs.Pieces.{Piece, pieces}
@@ -23,7 +23,8 @@ FrontsAreLegal = (outside : Outside) (front more : List Group) → IsLegal outsi
 -- one more legal group makes a longer legal transcript
 abbrev pub MoreIsLegal : Type 0
 MoreIsLegal =
-    (s : Session) (h : History) (groups : List Group) (group : Group) → IsLegalFrom s h groups → IsLegalGroup s (history_from h groups) group → IsLegalFrom s h (groups ++ group ∷ [])
+    (s : Session) (h : History) (groups : List Group) (group : Group) → IsLegalFrom s h groups → IsLegalGroup s (history_from h groups) group
+    → IsLegalFrom s h (groups ++ group ∷ [])
 
 -- the disk tells its changes, and each data handle tells its bytes
 abbrev pub tells : Slot → Bool
@@ -54,19 +55,20 @@ ReachedAreGranted = (page : ℕ) (h : History) → AllByRecursion (λ (piece : P
 
 -- the reached pieces in a page file, in bytes
 abbrev pub reached_bytes : Session → History → Page → ℕ
-reached_bytes s h page = bytes_of (in_page_of h (builds s.limits.page h) page (reached s.limits.page h))
+reached_bytes s h page = bytes_of (in_page_of h (builds (page_limit s) h) page (reached (page_limit s) h))
 
 abbrev pub is_thin_now : Session → History → Page → Bool
-is_thin_now s h page = is_thin h (builds s.limits.page h) (pieces s.limits.page h) (reached s.limits.page h) page
+is_thin_now s h page = is_thin h (builds (page_limit s) h) (pieces (page_limit s) h) (reached (page_limit s) h) page
 
 -- a thin page file stays only where the disk has no room for its reached pieces once more
 abbrev pub ThinStaysForRoom : Type 0
 ThinStaysForRoom =
     (s : Session) (h : History) → IsSettled s h → paging h ≡ true → in_flight h ≡ None →
-    AllByRecursion (λ (page : Page). is_thin_now s h page ≡ true → s.limits.disk - disk s.limits.page h < reached_bytes s h page) (files s.limits.page h)
+    AllByRecursion (λ (page : Page). is_thin_now s h page ≡ true → s.limits.disk - disk (page_limit s) h < reached_bytes s h page) (files (page_limit s) h)
 
 -- where no job is in flight and no thin page file stays, the disk is charged at most twice the reached pieces in page files, and the reserved ones
 abbrev pub DiskIsAtMostTwice : Type 0
 DiskIsAtMostTwice =
-    (s : Session) (h : History) → in_flight h ≡ None → AllByRecursion (λ (page : Page). is_thin_now s h page ≡ false) (files s.limits.page h) →
-    disk s.limits.page h ≤ 2 * sum_by (reached_bytes s h) (files s.limits.page h) + bytes_of (reserved_of h (builds s.limits.page h) (reached s.limits.page h))
+    (s : Session) (h : History) → in_flight h ≡ None → AllByRecursion (λ (page : Page). is_thin_now s h page ≡ false) (files (page_limit s) h) →
+    disk (page_limit s) h ≤ 2 * sum_by (reached_bytes s h) (files (page_limit s) h) + bytes_of
+    (reserved_of h (builds (page_limit s) h) (reached (page_limit s) h))

@@ -24,7 +24,8 @@ is_needed h builds name = list_any (λ (build : Build). is_unfinished h build.na
 -- of blobs in falling order of build those that live, with the later ones that do: a blob lives where it is rooted or an unfinished live blob needs it
 abbrev pub live_from : ℕ → History → List Build → List Build → List Build
 live_from page h [] later = later
-live_from page h (build ∷ earlier) later = live_from page h earlier (if is_rooted page h build.name || is_needed h later build.name then build ∷ later else later)
+live_from page h (build ∷ earlier) later = live_from page h earlier (if is_rooted page h build.name || is_needed h later build.name then build ∷ later
+    else later)
 
 -- the live blobs, in order of build; a source is older than what is built from it, so one pass finds the least set
 abbrev pub live : ℕ → History → List Build

@@ -17,4 +17,5 @@ Distinct (build ∷ rest) = (named build.name rest ≡ false) × Distinct rest
 abbrev pub AreOrdered : List Build → List Build → Type 0
 AreOrdered earlier [] = Unit {0}
 AreOrdered earlier (build ∷ rest) =
-    (named build.name earlier ≡ false) × ((source : ℕ) → is_some build.plan ≡ true → has_source build source ≡ true → named source earlier ≡ true) × AreOrdered (earlier ++ build ∷ []) rest
+    (named build.name earlier ≡ false) × ((source : ℕ) → is_some build.plan ≡ true → has_source build source ≡ true → named source earlier ≡ true)
+    × AreOrdered (earlier ++ build ∷ []) rest

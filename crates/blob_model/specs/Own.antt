@@ -13,7 +13,7 @@ use Rattle.session_script.specs.declared.event.Event.TheVariants as events
 use Rattle.answer_text.specs.declared.answer.Answer.{Answer}
 use Rattle.answer_text.specs.declared.answer.Answer.TheVariants as answers
 use Rattle.answer_text.specs.declared.refusal.Refusal.{Refusal}
-use Rattle.blob_model.specs.Session.{Session}
+use Rattle.blob_model.specs.Session.{Session, page_limit}
 use Rattle.blob_model.specs.History.{History}
 use Rattle.blob_model.specs.Builds.{Cell, sent, filed, lent, Build, builds, build_in, size_in, slice_parts}
 use Rattle.blob_model.specs.Standing.{ended}
@@ -35,11 +35,12 @@ use Rattle.blob_model.specs.Choice.{IsOneOf}
 
 -- what an unfinished blob still waits for
 abbrev pub pending_status : Session → History → Build → Status
-pending_status s h build = if is_waiting h build then statuses.PendingQuota else (if has_all s.limits h build then statuses.PendingReferencedBlobs else statuses.PendingTransport)
+pending_status s h build = if is_waiting h build then statuses.PendingQuota
+    else (if has_all s.limits h build then statuses.PendingReferencedBlobs else statuses.PendingTransport)
 
 -- the status that `stat` tells: how the blob ended, or what it waits for
 abbrev pub status_of : Session → History → ℕ → Status
-status_of s h b = unwrap_or (ended h b) (option_map_or (pending_status s h) (build_in (builds s.limits.page h) b) statuses.PendingTransport)
+status_of s h b = unwrap_or (ended h b) (option_map_or (pending_status s h) (build_in (builds (page_limit s) h) b) statuses.PendingTransport)
 
 -- the content type of the blob of this name
 abbrev pub kind_in : List Build → ℕ → List ℕ
@@ -51,11 +52,11 @@ blob_at h renderer text = option_map_or (λ (entry : Entry). entry.blob) (resolv
 
 -- opening a reader tells the size and the content type of its blob
 abbrev pub opened_answer : Session → History → ReaderId → ℕ → Answer
-opened_answer s h reader b = answers.Opened reader (size_in (builds s.limits.page h) b) (kind_in (builds s.limits.page h) b)
+opened_answer s h reader b = answers.Opened reader (size_in (builds (page_limit s) h) b) (kind_in (builds (page_limit s) h) b)
 
 -- the piece that a segment of a file plan brings: the one at its place among the blob's pieces
 abbrev pub piece_at : Session → History → ℕ → ℕ → ℕ
-piece_at s h b segment = option_map_or (λ (piece : Piece). piece.number) (slice_get (pieces_of s.limits.page h b) segment) 0
+piece_at s h b segment = option_map_or (λ (piece : Piece). piece.number) (slice_get (pieces_of (page_limit s) h b) segment) 0
 
 abbrev pub piece_no : ℕ → PieceNo
 piece_no number = record { 0 = number }
@@ -70,7 +71,7 @@ unstored_answers s h segment (Some (plans.File n)) = (answers.Taken segment ∷ 
 unstored_answers s h segment plan = []
 
 abbrev pub plan_in : Session → History → ℕ → Option Plan
-plan_in s h b = option_map_or (λ (build : Build). build.plan) (build_in (builds s.limits.page h) b) None
+plan_in s h b = option_map_or (λ (build : Build). build.plan) (build_in (builds (page_limit s) h) b) None
 
 -- a job of which no piece is left is empty; else its pieces are written to the next page file
 abbrev pub job_done : History → JobNo → Option ℕ → List ℕ → Answer
@@ -91,22 +92,22 @@ source_of (Some job) = job.source
 -- the answers of an accepted line where nothing of the outside fails; `step` has its own
 abbrev pub accepted : Session → History → Event → List Answer
 accepted s h (events.Build renderer name kind parts) = build_answer s h renderer.0 name parts ∷ []
-accepted s h (events.Slice renderer name source from to kind) = build_answer s h renderer.0 name (slice_parts (builds s.limits.page h) source from to) ∷ []
+accepted s h (events.Slice renderer name source from to kind) = build_answer s h renderer.0 name (slice_parts (builds (page_limit s) h) source from to) ∷ []
 accepted s h (events.Segment renderer b segment bytes) = answers.Taken segment ∷ stored_answers s h b segment (plan_in s h b)
-accepted s h (events.Stat renderer b) = answers.Told b (size_in (builds s.limits.page h) b) (kind_in (builds s.limits.page h) b) (status_of s h b) ∷ []
+accepted s h (events.Stat renderer b) = answers.Told b (size_in (builds (page_limit s) h) b) (kind_in (builds (page_limit s) h) b) (status_of s h b) ∷ []
 accepted s h (events.Revoke renderer text) = (if owns_entry h renderer.0 text then answers.Revoked else answers.Nothing) ∷ []
 accepted s h (events.Read renderer reader b off len) = opened_answer s h reader b ∷ []
 accepted s h (events.Fetch renderer reader text off len) = opened_answer s h reader (blob_at h renderer.0 text) ∷ []
-accepted s h (events.Disk job) = job_done h job (source_of (in_flight h)) (job_left s.limits.page h) ∷ []
+accepted s h (events.Disk job) = job_done h job (source_of (in_flight h)) (job_left (page_limit s) h) ∷ []
 accepted s h (events.Lost job) = answers.LostJob job ∷ []
 accepted s h events.Count =
-    answers.Held (length (live s.limits.page h)) (length (entries h)) (length (readers s.limits.page h)) (length (waits s.limits.page h)) (paging h) ∷ []
+    answers.Held (length (live (page_limit s) h)) (length (entries h)) (length (readers (page_limit s) h)) (length (waits (page_limit s) h)) (paging h) ∷ []
 accepted s h event = answers.Good ∷ []
 
 -- the answers where the disk fails
 abbrev pub failing : Session → History → Event → List (List Answer)
 failing s h (events.Segment renderer b segment bytes) = unstored_answers s h segment (plan_in s h b)
-failing s h (events.Disk job) = job_failed h job (source_of (in_flight h)) (job_left s.limits.page h)
+failing s h (events.Disk job) = job_failed h job (source_of (in_flight h)) (job_left (page_limit s) h)
 failing s h event = []
 
 -- a cell in a page file or in a slot may fail when it is read
@@ -116,10 +117,10 @@ page_fault reader at = []
 
 abbrev pub sent_fault : Session → History → ReaderId → Option Piece → List (List Answer)
 sent_fault s h reader None = []
-sent_fault s h reader (Some piece) = page_fault reader (place s.limits.page h piece)
+sent_fault s h reader (Some piece) = page_fault reader (place (page_limit s) h piece)
 
 abbrev pub cell_fault : Session → History → ReaderId → Cell → List (List Answer)
-cell_fault s h reader (sent blob index) = sent_fault s h reader (piece_with (pieces s.limits.page h) (sent blob index))
+cell_fault s h reader (sent blob index) = sent_fault s h reader (piece_with (pieces (page_limit s) h) (sent blob index))
 cell_fault s h reader (filed name stamp index) = []
 cell_fault s h reader (lent slot index) = (answers.HandleFailed reader slot ∷ []) ∷ []
 
@@ -155,7 +156,7 @@ IsStep s h reader (Some open_reader) own = IsStepBy s h reader open_reader (ende
 
 -- the own answers of an accepted line
 abbrev pub IsAccepted : Session → History → Event → List Answer → Type 0
-IsAccepted s h (events.Step reader) own = IsStep s h reader (reader_at s.limits.page h reader.0) own
+IsAccepted s h (events.Step reader) own = IsStep s h reader (reader_at (page_limit s) h reader.0) own
 IsAccepted s h event own = IsOneOf own (accepted s h event ∷ failing s h event)
 
 -- the own answers of a line: the first refusal that applies alone, else those of an accepted line

@@ -49,7 +49,8 @@ closed number readers = filter (λ (reader : OpenReader). not (reader.number == 
 -- a step that gave bytes moves its reader on, one whose answer is an end or a fault closes it; `cancel` closes one, and a renderer's readers go when it dies
 abbrev pub readers_after : ℕ → History → Event → Answer → List OpenReader → List OpenReader
 readers_after page h (events.Read renderer reader name off len) answer before = before ++ opened page h renderer.0 reader.0 name off len ∷ []
-readers_after page h (events.Fetch renderer reader text off len) answer before = before ++ fetched page h renderer.0 reader.0 (resolved h renderer.0 text) off len
+readers_after page h (events.Fetch renderer reader text off len) answer before = before ++ fetched page h renderer.0 reader.0 (resolved h renderer.0 text) off
+    len
 readers_after page h (events.Step reader) (answers.Given number bytes) before = map (advanced reader.0 (length bytes)) before
 readers_after page h (events.Step reader) (answers.Ended number status) before = closed reader.0 before
 readers_after page h (events.Step reader) (answers.FileChanged number name) before = closed reader.0 before

@@ -15,7 +15,7 @@ use Rattle.session_script.specs.declared.event.Event.TheVariants as events
 use Rattle.session_script.specs.declared.event.Part.{Part}
 use Rattle.answer_text.specs.declared.refusal.Refusal.{Refusal}
 use Rattle.answer_text.specs.declared.refusal.Refusal.TheVariants as refusals
-use Rattle.blob_model.specs.Session.{Session}
+use Rattle.blob_model.specs.Session.{Session, page_limit}
 use Rattle.blob_model.specs.History.{History}
 use Rattle.blob_model.specs.Renderers.{spawned, is_spawned, is_alive, origin_of}
 use Rattle.blob_model.specs.Recorded.{recorded, last_stamp, file_names}
@@ -42,18 +42,18 @@ no_handle h renderer b = (not (has_handle h renderer.0 b), refusals.NoHandle ren
 
 -- a blob of this name was built
 abbrev pub name_used : Session → History → ℕ → Bool × Refusal
-name_used s h name = (is_some (build_in (builds s.limits.page h) name), refusals.NameUsed name)
+name_used s h name = (is_some (build_in (builds (page_limit s) h) name), refusals.NameUsed name)
 
 -- with this line there would be more than so many
 abbrev pub too_many : Bool → Counted → Bool × Refusal
 too_many test counted = (test, refusals.TooMany counted)
 
 abbrev pub too_many_blobs : Session → History → Bool × Refusal
-too_many_blobs s h = too_many (nat_le MOST_BLOBS (length (builds s.limits.page h))) counted.Blobs
+too_many_blobs s h = too_many (nat_le MOST_BLOBS (length (builds (page_limit s) h))) counted.Blobs
 
 -- the slots that accepted builds claim
 abbrev pub claimed : Session → History → List ℕ
-claimed s h = flat_map (λ (build : Build). claims build.parts) (builds s.limits.page h)
+claimed s h = flat_map (λ (build : Build). claims build.parts) (builds (page_limit s) h)
 
 abbrev pub is_in : ℕ → List ℕ → Bool
 is_in number list = list_any (λ (each : ℕ). each == number) list
@@ -70,21 +70,21 @@ is_many_segments plan = false
 
 -- the pieces and the weights of all blobs
 abbrev pub piece_total : Session → History → ℕ
-piece_total s h = sum_by (λ (build : Build). length (spans_of s.limits.page build)) (builds s.limits.page h)
+piece_total s h = sum_by (λ (build : Build). length (spans_of (page_limit s) build)) (builds (page_limit s) h)
 
 abbrev pub weight_total : Session → History → ℕ
-weight_total s h = sum_by (λ (build : Build). build.weight) (builds s.limits.page h)
+weight_total s h = sum_by (λ (build : Build). build.weight) (builds (page_limit s) h)
 
 -- with a blob that doesn't break at its line there would be too many segments of it, pieces or views
 abbrev pub many_segments : Session → History → Bool → List Part → Bool × Refusal
 many_segments s h stands parts = too_many (stands && is_many_segments (plan_for s h parts)) counted.Segments
 
 abbrev pub many_pieces : Session → History → Bool → List Part → Bool × Refusal
-many_pieces s h stands parts = too_many (stands && nat_lt MOST_PIECES (piece_total s h + piece_count s.limits.page (own_lengths parts))) counted.Pieces
+many_pieces s h stands parts = too_many (stands && nat_lt MOST_PIECES (piece_total s h + piece_count (page_limit s) (own_lengths parts))) counted.Pieces
 
 abbrev pub many_views : Session → History → Bool → List Part → Bool × Refusal
 many_views s h stands parts =
-    too_many (stands && nat_lt MOST_WEIGHT (weight_total s h + parts_weight s.limits.page (builds s.limits.page h) parts)) counted.Views
+    too_many (stands && nat_lt MOST_WEIGHT (weight_total s h + parts_weight (page_limit s) (builds (page_limit s) h) parts)) counted.Views
 
 abbrev pub stands_at_line : Session → History → RendererId → ℕ → List Part → Bool
 stands_at_line s h renderer name parts = is_none (line_status s h renderer.0 name parts)
@@ -126,9 +126,9 @@ segment_refusals s h renderer b segment len (Some build) =
 -- a reader of this number is open, the range passes the blob, or too many readers are open
 abbrev pub reader_refusals : Session → History → ReaderId → ℕ → ℕ → Option ℕ → List (Bool × Refusal)
 reader_refusals s h reader b off len =
-    (is_some (reader_at s.limits.page h reader.0), refusals.ReaderUsed reader)
-    ∷ (not (is_broken h b) && nat_lt (size_in (builds s.limits.page h) b) (off + unwrap_or len 0), refusals.Range (size_in (builds s.limits.page h) b))
-    ∷ too_many (nat_le MOST_READERS (length (readers s.limits.page h))) counted.Readers
+    (is_some (reader_at (page_limit s) h reader.0), refusals.ReaderUsed reader)
+    ∷ (not (is_broken h b) && nat_lt (size_in (builds (page_limit s) h) b) (off + unwrap_or len 0), refusals.Range (size_in (builds (page_limit s) h) b))
+    ∷ too_many (nat_le MOST_READERS (length (readers (page_limit s) h))) counted.Readers
     ∷ []
 
 abbrev pub fetch_refusals : Session → History → ReaderId → Option Entry → ℕ → Option ℕ → List (Bool × Refusal)
@@ -137,7 +137,7 @@ fetch_refusals s h reader (Some entry) off len = reader_refusals s h reader entr
 
 -- whether the open reader belongs to the renderer
 abbrev pub owns_reader : Session → History → ℕ → ℕ → Bool
-owns_reader s h renderer reader = option_map_or (λ (each : OpenReader). each.owner == renderer) (reader_at s.limits.page h reader) false
+owns_reader s h renderer reader = option_map_or (λ (each : OpenReader). each.owner == renderer) (reader_at (page_limit s) h reader) false
 
 abbrev pub no_job : History → JobNo → Bool × Refusal
 no_job h job = (not (option_map_or (λ (flying : Job). flying.number == job.0) (in_flight h) false), refusals.NoJob job)
@@ -146,7 +146,8 @@ no_job h job = (not (option_map_or (λ (flying : Job). flying.number == job.0) (
 abbrev pub refusals_of : Session → History → Event → List (Bool × Refusal)
 refusals_of s h (events.Limits limits) = (true, refusals.LimitsAgain) ∷ []
 refusals_of s h (events.Limits2 limits) = (true, refusals.LimitsAgain) ∷ []
-refusals_of s h (events.Spawn renderer origin) = (is_spawned h renderer.0, refusals.RendererUsed renderer) ∷ too_many (nat_le MOST_RENDERERS (length (spawned h))) counted.Renderers ∷ []
+refusals_of s h (events.Spawn renderer origin) = (is_spawned h renderer.0, refusals.RendererUsed renderer)
+    ∷ too_many (nat_le MOST_RENDERERS (length (spawned h))) counted.Renderers ∷ []
 refusals_of s h (events.Die renderer) = no_renderer h renderer ∷ []
 refusals_of s h (events.File name stamp bytes) =
     (option_map_or (λ (last : ℕ). nat_le stamp last) (last_stamp h name) false, refusals.StaleStamp (unwrap_or (last_stamp h name) 0))
@@ -154,9 +155,10 @@ refusals_of s h (events.File name stamp bytes) =
     ∷ []
 refusals_of s h (events.Gone name) = (is_none (recorded h name), refusals.NoFile) ∷ []
 refusals_of s h (events.Build renderer name kind parts) = build_refusals s h renderer name parts
-refusals_of s h (events.Slice renderer name source from to kind) = slice_refusals s h renderer name source (slice_parts (builds s.limits.page h) source from to)
+refusals_of s h (events.Slice renderer name source from to kind) =
+    slice_refusals s h renderer name source (slice_parts (builds (page_limit s) h) source from to)
 refusals_of s h (events.Segment renderer b segment bytes) =
-    no_renderer h renderer ∷ segment_refusals s h renderer b segment (length bytes) (build_in (builds s.limits.page h) b)
+    no_renderer h renderer ∷ segment_refusals s h renderer b segment (length bytes) (build_in (builds (page_limit s) h) b)
 refusals_of s h (events.Pass renderer to b) = no_renderer h renderer ∷ no_renderer h to ∷ no_handle h renderer b ∷ []
 refusals_of s h (events.Drop renderer b) = no_renderer h renderer ∷ no_handle h renderer b ∷ []
 refusals_of s h (events.Stat renderer b) = no_renderer h renderer ∷ no_handle h renderer b ∷ []
@@ -170,7 +172,7 @@ refusals_of s h (events.Url renderer b text) =
 refusals_of s h (events.Revoke renderer text) = no_renderer h renderer ∷ []
 refusals_of s h (events.Read renderer reader b off len) = no_renderer h renderer ∷ no_handle h renderer b ∷ reader_refusals s h reader b off len
 refusals_of s h (events.Fetch renderer reader text off len) = no_renderer h renderer ∷ fetch_refusals s h reader (resolved h renderer.0 text) off len
-refusals_of s h (events.Step reader) = (is_none (reader_at s.limits.page h reader.0), refusals.NoReader reader) ∷ []
+refusals_of s h (events.Step reader) = (is_none (reader_at (page_limit s) h reader.0), refusals.NoReader reader) ∷ []
 refusals_of s h (events.Cancel renderer reader) = no_renderer h renderer ∷ (not (owns_reader s h renderer.0 reader.0), refusals.NoReader reader) ∷ []
 refusals_of s h (events.Disk job) = no_job h job ∷ []
 refusals_of s h (events.Lost job) = no_job h job ∷ []

@@ -38,7 +38,9 @@ chain_dropped = record {
       ∷ group (events.Drop (renderer 1) 9) (answers.Good ∷ []) 1 1 0 0
       ∷ group (events.Drop (renderer 1) 10) (answers.Good ∷ []) 1 1 0 0
       ∷ group (events.Drop (renderer 1) 11) (answers.Good ∷ []) 1 1 0 0
-      ∷ group (events.Drop (renderer 1) 12) (answers.Good ∷ answers.Dropped 12 ∷ answers.Dropped 11 ∷ answers.Dropped 10 ∷ answers.Dropped 9 ∷ answers.Dropped 8 ∷ answers.Dropped 7 ∷ answers.Dropped 6 ∷ answers.Dropped 5 ∷ answers.Dropped 4 ∷ answers.Dropped 3 ∷ answers.Dropped 2 ∷ answers.Dropped 1 ∷ []) 0 0 0 0
+      ∷ group (events.Drop (renderer 1) 12) (answers.Good ∷ answers.Dropped 12 ∷ answers.Dropped 11 ∷ answers.Dropped 10 ∷ answers.Dropped 9 ∷ answers.Dropped 8
+      ∷ answers.Dropped 7 ∷ answers.Dropped 6 ∷ answers.Dropped 5 ∷ answers.Dropped 4 ∷ answers.Dropped 3 ∷ answers.Dropped 2 ∷ answers.Dropped 1 ∷ []) 0 0
+      0 0
       ∷ group events.Finish (answers.Good ∷ []) 0 0 0 0
       ∷ [];
 }
@@ -63,7 +65,9 @@ chain_done = record {
       ∷ group (events.Slice (renderer 1) 10 9 (Some (pos 0)) (Some (pos 1)) []) (answers.Planned plans.None ∷ []) 1 1 0 0
       ∷ group (events.Slice (renderer 1) 11 10 (Some (pos 0)) (Some (pos 1)) []) (answers.Planned plans.None ∷ []) 1 1 0 0
       ∷ group (events.Slice (renderer 1) 12 11 (Some (pos 0)) (Some (pos 1)) []) (answers.Planned plans.None ∷ []) 1 1 0 0
-      ∷ group (events.Segment (renderer 1) 1 0 (codes "a")) (answers.Taken 0 ∷ answers.Done 1 ∷ answers.Done 2 ∷ answers.Done 3 ∷ answers.Done 4 ∷ answers.Done 5 ∷ answers.Done 6 ∷ answers.Done 7 ∷ answers.Done 8 ∷ answers.Done 9 ∷ answers.Done 10 ∷ answers.Done 11 ∷ answers.Done 12 ∷ []) 1 1 0 0
+      ∷ group (events.Segment (renderer 1) 1 0 (codes "a")) (answers.Taken 0 ∷ answers.Done 1 ∷ answers.Done 2 ∷ answers.Done 3 ∷ answers.Done 4
+      ∷ answers.Done 5 ∷ answers.Done 6 ∷ answers.Done 7 ∷ answers.Done 8 ∷ answers.Done 9 ∷ answers.Done 10 ∷ answers.Done 11 ∷ answers.Done 12 ∷ []) 1 1 0
+      0
       ∷ group events.Finish (answers.Good ∷ []) 0 0 0 0
       ∷ [];
 }

@@ -18,7 +18,8 @@ moved = record {
       group (events.Spawn (renderer 1) (codes "https://a.test")) (answers.Good ∷ []) 0 0 0 0
       ∷ group (events.Build (renderer 1) 1 [] (parts.Embedded (1 ∷ []) ∷ [])) (answers.Planned plans.Inline ∷ answers.Done 1 ∷ []) 1 1 0 0
       ∷ group (events.Build (renderer 1) 2 [] (parts.Embedded (2 ∷ 3 ∷ 4 ∷ 5 ∷ 6 ∷ 7 ∷ []) ∷ [])) (answers.Planned plans.Inline ∷ answers.Done 2 ∷ []) 2 7 0 0
-      ∷ group (events.Build (renderer 1) 3 [] (parts.Asked 8 ∷ [])) (answers.Planned (plans.Shared 2) ∷ answers.Job (job_no 0) (piece_list (0 ∷ 1 ∷ [])) ∷ []) 2 7 0 7
+      ∷ group (events.Build (renderer 1) 3 [] (parts.Asked 8 ∷ [])) (answers.Planned (plans.Shared 2) ∷ answers.Job (job_no 0) (piece_list (0 ∷ 1 ∷ [])) ∷ []) 2
+      7 0 7
       ∷ group (events.Disk (job_no 0)) (answers.Paged (job_no 0) (page_no 0) (piece_list (0 ∷ 1 ∷ [])) ∷ answers.Granted 3 ∷ []) 3 8 1 7
       ∷ group (events.Drop (renderer 1) 2) (answers.Good ∷ answers.Compacting (job_no 1) (page_no 0) (piece_list (0 ∷ [])) ∷ []) 2 8 1 8
       ∷ group (events.Disk (job_no 1)) (answers.Moved (job_no 1) (page_no 1) (piece_list (0 ∷ [])) ∷ answers.Removed (page_no 0) ∷ []) 2 8 1 1
@@ -38,7 +39,8 @@ move_unread = record {
       group (events.Spawn (renderer 1) (codes "https://a.test")) (answers.Good ∷ []) 0 0 0 0
       ∷ group (events.Build (renderer 1) 1 [] (parts.Embedded (1 ∷ []) ∷ [])) (answers.Planned plans.Inline ∷ answers.Done 1 ∷ []) 1 1 0 0
       ∷ group (events.Build (renderer 1) 2 [] (parts.Embedded (2 ∷ 3 ∷ 4 ∷ 5 ∷ 6 ∷ 7 ∷ []) ∷ [])) (answers.Planned plans.Inline ∷ answers.Done 2 ∷ []) 2 7 0 0
-      ∷ group (events.Build (renderer 1) 3 [] (parts.Asked 8 ∷ [])) (answers.Planned (plans.Shared 2) ∷ answers.Job (job_no 0) (piece_list (0 ∷ 1 ∷ [])) ∷ []) 2 7 0 7
+      ∷ group (events.Build (renderer 1) 3 [] (parts.Asked 8 ∷ [])) (answers.Planned (plans.Shared 2) ∷ answers.Job (job_no 0) (piece_list (0 ∷ 1 ∷ [])) ∷ []) 2
+      7 0 7
       ∷ group (events.Disk (job_no 0)) (answers.Paged (job_no 0) (page_no 0) (piece_list (0 ∷ 1 ∷ [])) ∷ answers.Granted 3 ∷ []) 3 8 1 7
       ∷ group (events.Drop (renderer 1) 2) (answers.Good ∷ answers.Compacting (job_no 1) (page_no 0) (piece_list (0 ∷ [])) ∷ []) 2 8 1 8
       ∷ group (events.Disk (job_no 1)) (answers.MoveUnread (job_no 1) (page_no 0) ∷ []) 2 8 1 7
@@ -56,7 +58,8 @@ move_failed = record {
       group (events.Spawn (renderer 1) (codes "https://a.test")) (answers.Good ∷ []) 0 0 0 0
       ∷ group (events.Build (renderer 1) 1 [] (parts.Embedded (1 ∷ []) ∷ [])) (answers.Planned plans.Inline ∷ answers.Done 1 ∷ []) 1 1 0 0
       ∷ group (events.Build (renderer 1) 2 [] (parts.Embedded (2 ∷ 3 ∷ 4 ∷ 5 ∷ 6 ∷ 7 ∷ []) ∷ [])) (answers.Planned plans.Inline ∷ answers.Done 2 ∷ []) 2 7 0 0
-      ∷ group (events.Build (renderer 1) 3 [] (parts.Asked 8 ∷ [])) (answers.Planned (plans.Shared 2) ∷ answers.Job (job_no 0) (piece_list (0 ∷ 1 ∷ [])) ∷ []) 2 7 0 7
+      ∷ group (events.Build (renderer 1) 3 [] (parts.Asked 8 ∷ [])) (answers.Planned (plans.Shared 2) ∷ answers.Job (job_no 0) (piece_list (0 ∷ 1 ∷ [])) ∷ []) 2
+      7 0 7
       ∷ group (events.Disk (job_no 0)) (answers.Paged (job_no 0) (page_no 0) (piece_list (0 ∷ 1 ∷ [])) ∷ answers.Granted 3 ∷ []) 3 8 1 7
       ∷ group (events.Drop (renderer 1) 2) (answers.Good ∷ answers.Compacting (job_no 1) (page_no 0) (piece_list (0 ∷ [])) ∷ []) 2 8 1 8
       ∷ group (events.Disk (job_no 1)) (answers.MoveFailed (job_no 1) (page_no 1) ∷ []) 2 8 1 7
@@ -74,7 +77,8 @@ no_room = record {
       group (events.Spawn (renderer 1) (codes "https://a.test")) (answers.Good ∷ []) 0 0 0 0
       ∷ group (events.Build (renderer 1) 1 [] (parts.Embedded (1 ∷ []) ∷ [])) (answers.Planned plans.Inline ∷ answers.Done 1 ∷ []) 1 1 0 0
       ∷ group (events.Build (renderer 1) 2 [] (parts.Embedded (2 ∷ 3 ∷ 4 ∷ 5 ∷ 6 ∷ 7 ∷ []) ∷ [])) (answers.Planned plans.Inline ∷ answers.Done 2 ∷ []) 2 7 0 0
-      ∷ group (events.Build (renderer 1) 3 [] (parts.Asked 8 ∷ [])) (answers.Planned (plans.Shared 2) ∷ answers.Job (job_no 0) (piece_list (0 ∷ 1 ∷ [])) ∷ []) 2 7 0 7
+      ∷ group (events.Build (renderer 1) 3 [] (parts.Asked 8 ∷ [])) (answers.Planned (plans.Shared 2) ∷ answers.Job (job_no 0) (piece_list (0 ∷ 1 ∷ [])) ∷ []) 2
+      7 0 7
       ∷ group (events.Disk (job_no 0)) (answers.Paged (job_no 0) (page_no 0) (piece_list (0 ∷ 1 ∷ [])) ∷ answers.Granted 3 ∷ []) 3 8 1 7
       ∷ group (events.Drop (renderer 1) 2) (answers.Good ∷ []) 2 8 1 7
       ∷ group events.Finish (answers.Good ∷ answers.Dropped 3 ∷ answers.Removed (page_no 0) ∷ []) 0 0 0 0
@@ -91,7 +95,8 @@ nothing_left = record {
       group (events.Spawn (renderer 1) (codes "https://a.test")) (answers.Good ∷ []) 0 0 0 0
       ∷ group (events.Build (renderer 1) 1 [] (parts.Embedded (1 ∷ []) ∷ [])) (answers.Planned plans.Inline ∷ answers.Done 1 ∷ []) 1 1 0 0
       ∷ group (events.Build (renderer 1) 2 [] (parts.Embedded (2 ∷ 3 ∷ 4 ∷ 5 ∷ 6 ∷ 7 ∷ []) ∷ [])) (answers.Planned plans.Inline ∷ answers.Done 2 ∷ []) 2 7 0 0
-      ∷ group (events.Build (renderer 1) 3 [] (parts.Asked 8 ∷ [])) (answers.Planned (plans.Shared 2) ∷ answers.Job (job_no 0) (piece_list (0 ∷ 1 ∷ [])) ∷ []) 2 7 0 7
+      ∷ group (events.Build (renderer 1) 3 [] (parts.Asked 8 ∷ [])) (answers.Planned (plans.Shared 2) ∷ answers.Job (job_no 0) (piece_list (0 ∷ 1 ∷ [])) ∷ []) 2
+      7 0 7
       ∷ group (events.Disk (job_no 0)) (answers.Paged (job_no 0) (page_no 0) (piece_list (0 ∷ 1 ∷ [])) ∷ answers.Granted 3 ∷ []) 3 8 1 7
       ∷ group (events.Drop (renderer 1) 2) (answers.Good ∷ answers.Compacting (job_no 1) (page_no 0) (piece_list (0 ∷ [])) ∷ []) 2 8 1 8
       ∷ group (events.Drop (renderer 1) 1) (answers.Good ∷ answers.Removed (page_no 0) ∷ []) 1 8 0 0

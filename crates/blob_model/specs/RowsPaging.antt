@@ -21,7 +21,8 @@ page_job = record {
       ∷ group (events.Build (renderer 1) 1 [] (parts.Embedded (codes "abcd") ∷ [])) (answers.Planned plans.Inline ∷ answers.Done 1 ∷ []) 1 4 0 0
       ∷ group (events.Build (renderer 1) 2 [] (parts.Embedded (codes "efgh") ∷ [])) (answers.Planned plans.Inline ∷ answers.Done 2 ∷ []) 2 8 0 0
       ∷ group (events.Read (renderer 1) (reader 1) 1 0 (Some 4)) (answers.Opened (reader 1) 4 [] ∷ []) 2 8 0 0
-      ∷ group (events.Build (renderer 1) 3 [] (parts.Asked 5 ∷ [])) (answers.Planned (plans.Shared 2) ∷ answers.Job (job_no 0) (piece_list (0 ∷ 1 ∷ [])) ∷ []) 2 8 0 8
+      ∷ group (events.Build (renderer 1) 3 [] (parts.Asked 5 ∷ [])) (answers.Planned (plans.Shared 2) ∷ answers.Job (job_no 0) (piece_list (0 ∷ 1 ∷ [])) ∷ []) 2
+      8 0 8
       ∷ group (events.Step (reader 1)) (answers.Given (reader 1) (codes "abcd") ∷ []) 2 8 0 8
       ∷ group (events.Drop (renderer 1) 2) (answers.Good ∷ []) 1 4 0 4
       ∷ group (events.Disk (job_no 0)) (answers.Paged (job_no 0) (page_no 0) (piece_list (0 ∷ [])) ∷ answers.Granted 3 ∷ []) 2 5 1 4
@@ -46,7 +47,8 @@ page_unread = record {
       ∷ group (events.Build (renderer 1) 1 [] (parts.Embedded (codes "abcd") ∷ [])) (answers.Planned plans.Inline ∷ answers.Done 1 ∷ []) 1 4 0 0
       ∷ group (events.Build (renderer 1) 2 [] (parts.Embedded (codes "efgh") ∷ [])) (answers.Planned plans.Inline ∷ answers.Done 2 ∷ []) 2 8 0 0
       ∷ group (events.Read (renderer 1) (reader 1) 1 0 (Some 4)) (answers.Opened (reader 1) 4 [] ∷ []) 2 8 0 0
-      ∷ group (events.Build (renderer 1) 3 [] (parts.Asked 5 ∷ [])) (answers.Planned (plans.Shared 2) ∷ answers.Job (job_no 0) (piece_list (0 ∷ 1 ∷ [])) ∷ []) 2 8 0 8
+      ∷ group (events.Build (renderer 1) 3 [] (parts.Asked 5 ∷ [])) (answers.Planned (plans.Shared 2) ∷ answers.Job (job_no 0) (piece_list (0 ∷ 1 ∷ [])) ∷ []) 2
+      8 0 8
       ∷ group (events.Step (reader 1)) (answers.Given (reader 1) (codes "abcd") ∷ []) 2 8 0 8
       ∷ group (events.Drop (renderer 1) 2) (answers.Good ∷ []) 1 4 0 4
       ∷ group (events.Disk (job_no 0)) (answers.Paged (job_no 0) (page_no 0) (piece_list (0 ∷ [])) ∷ answers.Granted 3 ∷ []) 2 5 1 4
@@ -71,7 +73,8 @@ page_failed = record {
       ∷ group (events.Build (renderer 1) 1 [] (parts.Embedded (codes "abcd") ∷ [])) (answers.Planned plans.Inline ∷ answers.Done 1 ∷ []) 1 4 0 0
       ∷ group (events.Build (renderer 1) 2 [] (parts.Embedded (codes "efgh") ∷ [])) (answers.Planned plans.Inline ∷ answers.Done 2 ∷ []) 2 8 0 0
       ∷ group (events.Read (renderer 1) (reader 1) 1 0 (Some 4)) (answers.Opened (reader 1) 4 [] ∷ []) 2 8 0 0
-      ∷ group (events.Build (renderer 1) 3 [] (parts.Asked 5 ∷ [])) (answers.Planned (plans.Shared 2) ∷ answers.Job (job_no 0) (piece_list (0 ∷ 1 ∷ [])) ∷ []) 2 8 0 8
+      ∷ group (events.Build (renderer 1) 3 [] (parts.Asked 5 ∷ [])) (answers.Planned (plans.Shared 2) ∷ answers.Job (job_no 0) (piece_list (0 ∷ 1 ∷ [])) ∷ []) 2
+      8 0 8
       ∷ group (events.Step (reader 1)) (answers.Given (reader 1) (codes "abcd") ∷ []) 2 8 0 8
       ∷ group (events.Drop (renderer 1) 2) (answers.Good ∷ []) 1 4 0 4
       ∷ group (events.Disk (job_no 0)) (answers.PageFailed (job_no 0) (page_no 0) ∷ []) 1 4 0 0
@@ -93,7 +96,8 @@ page_left = record {
       ∷ group (events.Build (renderer 1) 1 [] (parts.Embedded (codes "abcd") ∷ [])) (answers.Planned plans.Inline ∷ answers.Done 1 ∷ []) 1 4 0 0
       ∷ group (events.Build (renderer 1) 2 [] (parts.Embedded (codes "efgh") ∷ [])) (answers.Planned plans.Inline ∷ answers.Done 2 ∷ []) 2 8 0 0
       ∷ group (events.Read (renderer 1) (reader 1) 1 0 (Some 4)) (answers.Opened (reader 1) 4 [] ∷ []) 2 8 0 0
-      ∷ group (events.Build (renderer 1) 3 [] (parts.Asked 5 ∷ [])) (answers.Planned (plans.Shared 2) ∷ answers.Job (job_no 0) (piece_list (0 ∷ 1 ∷ [])) ∷ []) 2 8 0 8
+      ∷ group (events.Build (renderer 1) 3 [] (parts.Asked 5 ∷ [])) (answers.Planned (plans.Shared 2) ∷ answers.Job (job_no 0) (piece_list (0 ∷ 1 ∷ [])) ∷ []) 2
+      8 0 8
       ∷ group (events.Step (reader 1)) (answers.Given (reader 1) (codes "abcd") ∷ []) 2 8 0 8
       ∷ group (events.Drop (renderer 1) 2) (answers.Good ∷ []) 1 4 0 4
       ∷ group (events.Disk (job_no 0)) (answers.Paged (job_no 0) (page_no 0) (piece_list (0 ∷ [])) ∷ answers.Granted 3 ∷ []) 2 5 1 4
@@ -118,7 +122,8 @@ job_lost = record {
       ∷ group (events.Build (renderer 1) 1 [] (parts.Embedded (codes "abcd") ∷ [])) (answers.Planned plans.Inline ∷ answers.Done 1 ∷ []) 1 4 0 0
       ∷ group (events.Build (renderer 1) 2 [] (parts.Embedded (codes "efgh") ∷ [])) (answers.Planned plans.Inline ∷ answers.Done 2 ∷ []) 2 8 0 0
       ∷ group (events.Read (renderer 1) (reader 1) 1 0 (Some 4)) (answers.Opened (reader 1) 4 [] ∷ []) 2 8 0 0
-      ∷ group (events.Build (renderer 1) 3 [] (parts.Asked 5 ∷ [])) (answers.Planned (plans.Shared 2) ∷ answers.Job (job_no 0) (piece_list (0 ∷ 1 ∷ [])) ∷ []) 2 8 0 8
+      ∷ group (events.Build (renderer 1) 3 [] (parts.Asked 5 ∷ [])) (answers.Planned (plans.Shared 2) ∷ answers.Job (job_no 0) (piece_list (0 ∷ 1 ∷ [])) ∷ []) 2
+      8 0 8
       ∷ group (events.Lost (job_no 0)) (answers.LostJob (job_no 0) ∷ []) 2 8 0 0
       ∷ group (events.Build (renderer 1) 4 [] (parts.Asked 9 ∷ [])) (answers.Broken 4 statuses.OutOfMemory ∷ []) 2 8 0 0
       ∷ group (events.Cancel (renderer 1) (reader 1)) (answers.Good ∷ []) 2 8 0 0

@@ -53,7 +53,8 @@ cuts = record {
   limits = short_pages;
   groups =
       group (events.Spawn (renderer 1) (codes "https://a.test")) (answers.Good ∷ []) 0 0 0 0
-      ∷ group (events.Build (renderer 1) 1 [] (parts.Embedded (1 ∷ 2 ∷ 3 ∷ 4 ∷ 5 ∷ 6 ∷ 7 ∷ 8 ∷ []) ∷ [])) (answers.Planned plans.Inline ∷ answers.Done 1 ∷ []) 2 8 0 0
+      ∷ group (events.Build (renderer 1) 1 [] (parts.Embedded (1 ∷ 2 ∷ 3 ∷ 4 ∷ 5 ∷ 6 ∷ 7 ∷ 8 ∷ []) ∷ [])) (answers.Planned plans.Inline ∷ answers.Done 1 ∷ []) 2
+      8 0 0
       ∷ group (events.Slice (renderer 1) 2 1 (Some (pos 2)) (Some (pos 7)) []) (answers.Planned plans.None ∷ answers.Done 2 ∷ []) 2 8 0 0
       ∷ group (events.Slice (renderer 1) 3 2 (Some (pos 1)) (Some (pos 4)) []) (answers.Planned plans.None ∷ answers.Done 3 ∷ []) 2 8 0 0
       ∷ group (events.Drop (renderer 1) 1) (answers.Good ∷ []) 2 8 0 0
@@ -72,7 +73,8 @@ one_piece_stays = record {
   limits = short_pages;
   groups =
       group (events.Spawn (renderer 1) (codes "https://a.test")) (answers.Good ∷ []) 0 0 0 0
-      ∷ group (events.Build (renderer 1) 1 [] (parts.Embedded (1 ∷ 2 ∷ 3 ∷ 4 ∷ 5 ∷ 6 ∷ 7 ∷ 8 ∷ []) ∷ [])) (answers.Planned plans.Inline ∷ answers.Done 1 ∷ []) 2 8 0 0
+      ∷ group (events.Build (renderer 1) 1 [] (parts.Embedded (1 ∷ 2 ∷ 3 ∷ 4 ∷ 5 ∷ 6 ∷ 7 ∷ 8 ∷ []) ∷ [])) (answers.Planned plans.Inline ∷ answers.Done 1 ∷ []) 2
+      8 0 0
       ∷ group (events.Slice (renderer 1) 2 1 (Some (pos 5)) (Some (pos 7)) []) (answers.Planned plans.None ∷ answers.Done 2 ∷ []) 2 8 0 0
       ∷ group (events.Drop (renderer 1) 1) (answers.Good ∷ []) 1 4 0 0
       ∷ group (events.Drop (renderer 1) 2) (answers.Good ∷ []) 0 0 0 0

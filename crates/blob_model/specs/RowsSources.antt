@@ -47,19 +47,23 @@ blob_urls = record {
       ∷ group (events.Url (renderer 1) 1 (codes "blob:https://a.test/00000000-0000-0000-0000-000000000009")) (answers.Good ∷ []) 1 3 0 0
       ∷ group (events.Url (renderer 1) 1 (codes "blob:https://a.test/00000000-0000-0000-0000-000000000009")) (answers.Refused refusals.UrlTaken ∷ []) 1 3 0 0
       ∷ group (events.Url (renderer 1) 1 (codes "blob:https://a.test/00000000-0000-0000-0000-000000000009#x")) (answers.Refused refusals.UrlForm ∷ []) 1 3 0 0
-      ∷ group (events.Fetch (renderer 3) (reader 1) (codes "blob:https://a.test/00000000-0000-0000-0000-000000000009#x") 0 None) (answers.Opened (reader 1) 3 [] ∷ []) 1 3 0 0
-      ∷ group (events.Fetch (renderer 2) (reader 2) (codes "blob:https://a.test/00000000-0000-0000-0000-000000000009") 0 None) (answers.Refused refusals.NoUrl ∷ []) 1 3 0 0
+      ∷ group (events.Fetch (renderer 3) (reader 1) (codes "blob:https://a.test/00000000-0000-0000-0000-000000000009#x") 0 None)
+      (answers.Opened (reader 1) 3 [] ∷ []) 1 3 0 0
+      ∷ group (events.Fetch (renderer 2) (reader 2) (codes "blob:https://a.test/00000000-0000-0000-0000-000000000009") 0 None)
+      (answers.Refused refusals.NoUrl ∷ []) 1 3 0 0
       ∷ group (events.Drop (renderer 1) 1) (answers.Good ∷ []) 1 3 0 0
       ∷ group (events.Revoke (renderer 3) (codes "blob:https://a.test/00000000-0000-0000-0000-000000000009")) (answers.Nothing ∷ []) 1 3 0 0
       ∷ group (events.Revoke (renderer 1) (codes "blob:https://a.test/00000000-0000-0000-0000-000000000009")) (answers.Revoked ∷ []) 1 3 0 0
-      ∷ group (events.Fetch (renderer 3) (reader 2) (codes "blob:https://a.test/00000000-0000-0000-0000-000000000009") 0 None) (answers.Refused refusals.NoUrl ∷ []) 1 3 0 0
+      ∷ group (events.Fetch (renderer 3) (reader 2) (codes "blob:https://a.test/00000000-0000-0000-0000-000000000009") 0 None)
+      (answers.Refused refusals.NoUrl ∷ []) 1 3 0 0
       ∷ group (events.Step (reader 1)) (answers.Given (reader 1) (codes "ab") ∷ []) 1 3 0 0
       ∷ group (events.Step (reader 1)) (answers.Given (reader 1) (codes "c") ∷ []) 1 3 0 0
       ∷ group (events.Step (reader 1)) (answers.Ended (reader 1) statuses.Done ∷ []) 0 0 0 0
       ∷ group (events.Build (renderer 1) 2 [] (parts.Embedded (codes "d") ∷ [])) (answers.Planned plans.Inline ∷ answers.Done 2 ∷ []) 1 1 0 0
       ∷ group (events.Url (renderer 1) 2 (codes "blob:https://a.test/00000000-0000-0000-0000-000000000009")) (answers.Good ∷ []) 1 1 0 0
       ∷ group (events.Die (renderer 1)) (answers.Good ∷ []) 0 0 0 0
-      ∷ group (events.Fetch (renderer 3) (reader 2) (codes "blob:https://a.test/00000000-0000-0000-0000-000000000009") 0 None) (answers.Refused refusals.NoUrl ∷ []) 0 0 0 0
+      ∷ group (events.Fetch (renderer 3) (reader 2) (codes "blob:https://a.test/00000000-0000-0000-0000-000000000009") 0 None)
+      (answers.Refused refusals.NoUrl ∷ []) 0 0 0 0
       ∷ group events.Finish (answers.Good ∷ []) 0 0 0 0
       ∷ [];
 }

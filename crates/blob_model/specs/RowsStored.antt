@@ -78,7 +78,8 @@ store_failed = record {
       group (events.Spawn (renderer 1) (codes "https://a.test")) (answers.Good ∷ []) 0 0 0 0
       ∷ group (events.Build (renderer 1) 1 [] (parts.Asked 9 ∷ [])) (answers.Planned (plans.File 2) ∷ []) 2 0 0 9
       ∷ group (events.Segment (renderer 1) 1 0 (codes "abcdefgh")) (answers.Taken 0 ∷ answers.Stored (page_no 0) (piece_no 0) ∷ []) 2 0 1 9
-      ∷ group (events.Segment (renderer 1) 1 1 (codes "i")) (answers.Taken 1 ∷ answers.StoreFailed (page_no 1) ∷ answers.Broken 1 statuses.FileWriteFailed ∷ answers.Removed (page_no 0) ∷ []) 0 0 0 0
+      ∷ group (events.Segment (renderer 1) 1 1 (codes "i")) (answers.Taken 1 ∷ answers.StoreFailed (page_no 1) ∷ answers.Broken 1 statuses.FileWriteFailed
+      ∷ answers.Removed (page_no 0) ∷ []) 0 0 0 0
       ∷ group events.Finish (answers.Good ∷ []) 0 0 0 0
       ∷ [];
 }
@@ -106,7 +107,8 @@ long_page_failed = record {
   groups =
       group (events.Spawn (renderer 1) (codes "https://a.test")) (answers.Good ∷ []) 0 0 0 0
       ∷ group (events.Build (renderer 1) 1 [] (parts.Asked 5 ∷ [])) (answers.Planned (plans.File 1) ∷ []) 1 0 0 5
-      ∷ group (events.Segment (renderer 1) 1 0 (codes "abcde")) (answers.Taken 0 ∷ answers.StoreFailed (page_no 0) ∷ answers.Broken 1 statuses.FileWriteFailed ∷ []) 0 0 0 0
+      ∷ group (events.Segment (renderer 1) 1 0 (codes "abcde")) (answers.Taken 0 ∷ answers.StoreFailed (page_no 0) ∷ answers.Broken 1 statuses.FileWriteFailed
+      ∷ []) 0 0 0 0
       ∷ group events.Finish (answers.Good ∷ []) 0 0 0 0
       ∷ [];
 }

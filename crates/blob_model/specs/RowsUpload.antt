@@ -18,11 +18,14 @@ upload = record {
       group (events.Spawn (renderer 1) (codes "https://shop.test")) (answers.Good ∷ []) 0 0 0 0
       ∷ group (events.Spawn (renderer 2) (codes "https://shop.test")) (answers.Good ∷ []) 0 0 0 0
       ∷ group (events.File (codes "photo.jpg") 1700000000 (255 ∷ 216 ∷ 255 ∷ 224 ∷ 0 ∷ 16 ∷ 74 ∷ 70 ∷ 73 ∷ 70 ∷ 255 ∷ 217 ∷ [])) (answers.Good ∷ []) 0 0 0 0
-      ∷ group (events.Build (renderer 1) 1 (codes "image/jpeg") (parts.FileRange (codes "photo.jpg") 0 12 1700000000 ∷ [])) (answers.Planned plans.None ∷ answers.Done 1 ∷ []) 0 0 0 0
+      ∷ group (events.Build (renderer 1) 1 (codes "image/jpeg") (parts.FileRange (codes "photo.jpg") 0 12 1700000000 ∷ []))
+      (answers.Planned plans.None ∷ answers.Done 1 ∷ []) 0 0 0 0
       ∷ group (events.Slice (renderer 1) 2 1 (Some (pos 0)) (Some (pos 4)) []) (answers.Planned plans.None ∷ answers.Done 2 ∷ []) 0 0 0 0
-      ∷ group (events.Build (renderer 1) 3 [] (parts.Embedded (codes "--x") ∷ parts.BlobRange 2 0 4 ∷ parts.Embedded (codes "--x--") ∷ [])) (answers.Planned plans.Inline ∷ answers.Done 3 ∷ []) 2 8 0 0
+      ∷ group (events.Build (renderer 1) 3 [] (parts.Embedded (codes "--x") ∷ parts.BlobRange 2 0 4 ∷ parts.Embedded (codes "--x--") ∷ []))
+      (answers.Planned plans.Inline ∷ answers.Done 3 ∷ []) 2 8 0 0
       ∷ group (events.Url (renderer 1) 1 (codes "blob:https://shop.test/00000000-0000-0000-0000-000000000008")) (answers.Good ∷ []) 2 8 0 0
-      ∷ group (events.Fetch (renderer 2) (reader 1) (codes "blob:https://shop.test/00000000-0000-0000-0000-000000000008") 0 None) (answers.Opened (reader 1) 12 (codes "image/jpeg") ∷ []) 2 8 0 0
+      ∷ group (events.Fetch (renderer 2) (reader 1) (codes "blob:https://shop.test/00000000-0000-0000-0000-000000000008") 0 None)
+      (answers.Opened (reader 1) 12 (codes "image/jpeg") ∷ []) 2 8 0 0
       ∷ group (events.Step (reader 1)) (answers.Given (reader 1) (255 ∷ 216 ∷ 255 ∷ 224 ∷ 0 ∷ 16 ∷ 74 ∷ 70 ∷ 73 ∷ 70 ∷ 255 ∷ 217 ∷ []) ∷ []) 2 8 0 0
       ∷ group (events.Step (reader 1)) (answers.Ended (reader 1) statuses.Done ∷ []) 2 8 0 0
       ∷ group (events.Read (renderer 1) (reader 2) 3 0 None) (answers.Opened (reader 2) 12 [] ∷ []) 2 8 0 0

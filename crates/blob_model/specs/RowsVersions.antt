@@ -20,9 +20,11 @@ waiting_lost = record {
       group (events.Spawn (renderer 1) (codes "https://a.test")) (answers.Good ∷ []) 0 0 0 0
       ∷ group (events.Build (renderer 1) 1 [] (parts.Embedded (codes "abcd") ∷ [])) (answers.Planned plans.Inline ∷ answers.Done 1 ∷ []) 1 4 0 0
       ∷ group (events.Build (renderer 1) 2 [] (parts.Embedded (codes "efgh") ∷ [])) (answers.Planned plans.Inline ∷ answers.Done 2 ∷ []) 2 8 0 0
-      ∷ group (events.Build (renderer 1) 3 [] (parts.Asked 5 ∷ [])) (answers.Planned (plans.Shared 2) ∷ answers.Job (job_no 0) (piece_list (0 ∷ 1 ∷ [])) ∷ []) 2 8 0 8
+      ∷ group (events.Build (renderer 1) 3 [] (parts.Asked 5 ∷ [])) (answers.Planned (plans.Shared 2) ∷ answers.Job (job_no 0) (piece_list (0 ∷ 1 ∷ [])) ∷ []) 2
+      8 0 8
       ∷ group (events.Build (renderer 1) 4 [] (parts.BlobRange 3 0 5 ∷ [])) (answers.Planned plans.None ∷ []) 2 8 0 8
-      ∷ group (events.Lost (job_no 0)) (answers.LostJob (job_no 0) ∷ answers.Broken 3 statuses.FileWriteFailed ∷ answers.Broken 4 statuses.ReferencedBlobBroken ∷ []) 2 8 0 0
+      ∷ group (events.Lost (job_no 0)) (answers.LostJob (job_no 0) ∷ answers.Broken 3 statuses.FileWriteFailed ∷ answers.Broken 4 statuses.ReferencedBlobBroken
+      ∷ []) 2 8 0 0
       ∷ group (events.Build (renderer 1) 5 [] (parts.Asked 2 ∷ [])) (answers.Planned (plans.Shared 1) ∷ []) 2 8 0 0
       ∷ group (events.Drop (renderer 1) 2) (answers.Good ∷ answers.Granted 5 ∷ []) 2 6 0 0
       ∷ group (events.Limits2 small_memory) (answers.Refused refusals.LimitsAgain ∷ []) 2 6 0 0
@@ -40,9 +42,11 @@ waiting_failed = record {
       group (events.Spawn (renderer 1) (codes "https://a.test")) (answers.Good ∷ []) 0 0 0 0
       ∷ group (events.Build (renderer 1) 1 [] (parts.Embedded (codes "abcd") ∷ [])) (answers.Planned plans.Inline ∷ answers.Done 1 ∷ []) 1 4 0 0
       ∷ group (events.Build (renderer 1) 2 [] (parts.Embedded (codes "efgh") ∷ [])) (answers.Planned plans.Inline ∷ answers.Done 2 ∷ []) 2 8 0 0
-      ∷ group (events.Build (renderer 1) 3 [] (parts.Asked 5 ∷ [])) (answers.Planned (plans.Shared 2) ∷ answers.Job (job_no 0) (piece_list (0 ∷ 1 ∷ [])) ∷ []) 2 8 0 8
+      ∷ group (events.Build (renderer 1) 3 [] (parts.Asked 5 ∷ [])) (answers.Planned (plans.Shared 2) ∷ answers.Job (job_no 0) (piece_list (0 ∷ 1 ∷ [])) ∷ []) 2
+      8 0 8
       ∷ group (events.Build (renderer 1) 4 [] (parts.BlobRange 3 0 5 ∷ [])) (answers.Planned plans.None ∷ []) 2 8 0 8
-      ∷ group (events.Disk (job_no 0)) (answers.PageFailed (job_no 0) (page_no 0) ∷ answers.Broken 3 statuses.FileWriteFailed ∷ answers.Broken 4 statuses.ReferencedBlobBroken ∷ []) 2 8 0 0
+      ∷ group (events.Disk (job_no 0)) (answers.PageFailed (job_no 0) (page_no 0) ∷ answers.Broken 3 statuses.FileWriteFailed
+      ∷ answers.Broken 4 statuses.ReferencedBlobBroken ∷ []) 2 8 0 0
       ∷ group events.Finish (answers.Good ∷ []) 0 0 0 0
       ∷ [];
 }
@@ -57,7 +61,8 @@ waiting_on = record {
       group (events.Spawn (renderer 1) (codes "https://a.test")) (answers.Good ∷ []) 0 0 0 0
       ∷ group (events.Build (renderer 1) 1 [] (parts.Embedded (codes "abcd") ∷ [])) (answers.Planned plans.Inline ∷ answers.Done 1 ∷ []) 1 4 0 0
       ∷ group (events.Build (renderer 1) 2 [] (parts.Embedded (codes "efgh") ∷ [])) (answers.Planned plans.Inline ∷ answers.Done 2 ∷ []) 2 8 0 0
-      ∷ group (events.Build (renderer 1) 3 [] (parts.Asked 5 ∷ [])) (answers.Planned (plans.Shared 2) ∷ answers.Job (job_no 0) (piece_list (0 ∷ 1 ∷ [])) ∷ []) 2 8 0 8
+      ∷ group (events.Build (renderer 1) 3 [] (parts.Asked 5 ∷ [])) (answers.Planned (plans.Shared 2) ∷ answers.Job (job_no 0) (piece_list (0 ∷ 1 ∷ [])) ∷ []) 2
+      8 0 8
       ∷ group (events.Build (renderer 1) 4 [] (parts.BlobRange 3 0 5 ∷ [])) (answers.Planned plans.None ∷ []) 2 8 0 8
       ∷ group (events.Lost (job_no 0)) (answers.LostJob (job_no 0) ∷ []) 2 8 0 0
       ∷ group events.Finish (answers.Good ∷ answers.Dropped 4 ∷ answers.Dropped 3 ∷ []) 0 0 0 0

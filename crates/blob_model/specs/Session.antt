@@ -19,3 +19,7 @@ pub record Session : Type 0 where
   pub limits : Limits
   pub version : Version
   pub outside : Outside
+
+-- the most bytes of a piece
+abbrev pub page_limit : Session → ℕ
+page_limit s = s.limits.page

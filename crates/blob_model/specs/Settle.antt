@@ -8,7 +8,7 @@ use Rattle.blob_words.specs.declared.number.JobNo.{JobNo}
 use Rattle.blob_words.specs.declared.status.Status.TheVariants as statuses
 use Rattle.answer_text.specs.declared.answer.Answer.{Answer}
 use Rattle.answer_text.specs.declared.answer.Answer.TheVariants as answers
-use Rattle.blob_model.specs.Session.{Session}
+use Rattle.blob_model.specs.Session.{Session, page_limit}
 use Rattle.blob_model.specs.History.{History, said, said_all}
 use Rattle.blob_model.specs.Renderers.{is_alive}
 use Rattle.blob_model.specs.Parts.{own_bytes, sources}
@@ -38,7 +38,8 @@ job_no number = record { 0 = number }
 -- 1 and 3: the unfinished blobs that aren't live are dropped, the greatest build number first
 abbrev pub drops : Session → History → List Answer
 drops s h =
-    map (λ (build : Build). answers.Dropped build.name) (filter (λ (build : Build). is_unfinished h build.name && not (is_live s.limits.page h build.name)) (reverse (builds s.limits.page h)))
+    map (λ (build : Build). answers.Dropped build.name) (filter (λ (build : Build). is_unfinished h build.name && not (is_live (page_limit s) h build.name))
+    (reverse (builds (page_limit s) h)))
 
 -- whether the write of the blob failed in this line, or the line turned paging off while it waited
 abbrev pub is_unwritten : Session → History → Build → Bool
@@ -70,26 +71,28 @@ endings_of s h [] = []
 endings_of s h (build ∷ more) = ending_answers s h build ++ endings_of s (said_all h (ending_answers s h build)) more
 
 abbrev pub endings : Session → History → List Answer
-endings s h = endings_of s h (builds s.limits.page h)
+endings s h = endings_of s h (builds (page_limit s) h)
 
 -- 4: the page files that hold no reached piece are removed, in rising number; those of `unremoved` are left, since the disk failed
 abbrev pub is_due : History → List Page → Page → Bool
 is_due h held page = not (list_any (λ (each : Page). each.number == page.number) held) && not (list_any (λ (number : ℕ). number == page.number) (asked h))
 
 abbrev pub removal : List ℕ → Page → Answer
-removal unremoved page = if list_any (λ (number : ℕ). number == page.number) unremoved then answers.Left (page_no page.number) else answers.Removed (page_no page.number)
+removal unremoved page = if list_any (λ (number : ℕ). number == page.number) unremoved then answers.Left (page_no page.number)
+    else answers.Removed (page_no page.number)
 
 abbrev pub removals : Session → List ℕ → History → List Answer
-removals s unremoved h = map (removal unremoved) (filter (is_due h (files s.limits.page h)) (pages h))
+removals s unremoved h = map (removal unremoved) (filter (is_due h (files (page_limit s) h)) (pages h))
 
 -- 5: those that wait are granted in order, while the head fits in memory
 abbrev pub grants_of : Session → History → List Build → List Answer
 grants_of s h [] = []
 grants_of s h (build ∷ more) =
-    if nat_le (memory s.limits.page h + own_bytes build.parts) s.limits.memory then answers.Granted build.name ∷ grants_of s (said h (answers.Granted build.name)) more else []
+    if nat_le (memory (page_limit s) h + own_bytes build.parts) s.limits.memory then answers.Granted build.name
+    ∷ grants_of s (said h (answers.Granted build.name)) more else []
 
 abbrev pub grants : Session → History → List Answer
-grants s h = grants_of s h (waits s.limits.page h)
+grants s h = grants_of s h (waits (page_limit s) h)
 
 -- whether a job may start: paging is on and no job is in flight
 abbrev pub may_start : History → Bool
@@ -101,23 +104,24 @@ page_job_of h [] = []
 page_job_of h (number ∷ numbers) = answers.Job (job_no (next_job h)) (piece_list (number ∷ numbers)) ∷ []
 
 abbrev pub page_jobs : Session → History → List Answer
-page_jobs s h = if may_start h && nat_lt 0 (length (waits s.limits.page h)) then page_job_of h (chosen s.limits h) else []
+page_jobs s h = if may_start h && nat_lt 0 (length (waits (page_limit s) h)) then page_job_of h (chosen s.limits h) else []
 
 -- whether the page file is thin and the disk has room for its reached pieces once more, where the blobs, all pieces and the reached ones are these
 abbrev pub can_move : Session → History → List Build → List Piece → List Piece → Page → Bool
-can_move s h builds all list page = is_thin h builds all list page && nat_le (bytes_of (in_page_of h builds page list)) (s.limits.disk - disk_of h builds all list)
+can_move s h builds all list page = is_thin h builds all list page && nat_le (bytes_of (in_page_of h builds page list))
+    (s.limits.disk - disk_of h builds all list)
 
 -- the least page file of which this holds
 abbrev pub movable : Session → History → Option Page
 movable s h =
-    find (can_move s h (builds s.limits.page h) (pieces s.limits.page h) (reached s.limits.page h)) (files s.limits.page h)
+    find (can_move s h (builds (page_limit s) h) (pieces (page_limit s) h) (reached (page_limit s) h)) (files (page_limit s) h)
 
 -- the reached pieces in a page file, by rising offset
 abbrev pub kept_of : Page → List Piece → List ℕ
 kept_of page list = filter (λ (number : ℕ). list_any (λ (piece : Piece). piece.number == number) list) page.pieces
 
 abbrev pub kept : Session → History → Page → List ℕ
-kept s h page = kept_of page (in_page_of h (builds s.limits.page h) page (reached s.limits.page h))
+kept s h page = kept_of page (in_page_of h (builds (page_limit s) h) page (reached (page_limit s) h))
 
 abbrev pub compaction : Session → History → Page → Answer
 compaction s h page = answers.Compacting (job_no (next_job h)) (page_no page.number) (piece_list (kept s h page))

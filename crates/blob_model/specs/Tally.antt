@@ -64,7 +64,13 @@ abbrev pub job_left : ℕ → History → List ℕ
 job_left page h = job_left_in h (reached page h)
 
 abbrev pub tally_of : History → List Build → List Piece → List Piece → Tally
-tally_of h builds all list = record { pieces = length list; memory = memory_of h builds list; files = length (files_of h builds list); disk = disk_of h builds all list }
+tally_of h builds all list = record {
+  pieces = length list;
+  memory = memory_of h builds list;
+  files = length (files_of h builds list);
+  disk = disk_of h builds
+      all list;
+}
 
 -- the four numbers behind each group
 abbrev pub tally : ℕ → History → Tally

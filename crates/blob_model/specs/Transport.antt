@@ -57,7 +57,8 @@ is_within span index = nat_le span.0 index && nat_lt index (span.0 + span.1)
 abbrev pub byte_from : List Arrival → ℕ → List (ℕ × ℕ) → ℕ → Option ℕ
 byte_from came segment [] index = None
 byte_from came segment (span ∷ more) index =
-    if is_within span index then option_and_then (λ (bytes : List ℕ). slice_get bytes (index - span.0)) (brought came segment) else byte_from came (segment + 1) more index
+    if is_within span index then option_and_then (λ (bytes : List ℕ). slice_get bytes (index - span.0)) (brought came segment) else byte_from came (segment + 1)
+    more index
 
 -- the own byte of a blob at a place: an inline plan takes those that stand in the line, a shared or a file plan those of the segments
 abbrev pub byte_by_plan : Limits → History → Build → ℕ → Option Plan → Option ℕ

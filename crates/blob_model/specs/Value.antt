@@ -1,7 +1,7 @@
 -- The byte that a cell stands for. File API: a read gives the bytes of the parts named at construction.
 use Rattle.std.specs.Prelude.{ℕ, ◌==◌, ◌&&◌, ◌||◌, Bool, true, false, List, [], ◌∷◌, Option, None, Some, is_none, slice_get}
 use Rattle.std.specs.Option.{option_map_or, option_and_then}
-use Rattle.blob_model.specs.Session.{Slot, Outside, Session}
+use Rattle.blob_model.specs.Session.{Slot, Outside, Session, page_limit}
 use Rattle.blob_model.specs.History.{History}
 use Rattle.blob_model.specs.Recorded.{content}
 use Rattle.blob_model.specs.Builds.{Cell, sent, filed, lent, Build, builds, build_in}
@@ -15,7 +15,7 @@ slot_bytes outside slot = option_and_then (λ (object : Slot). object.bytes) (sl
 
 -- the byte of a cell: as it was sent, as the file had it at the stamp, or as the data handle tells it
 abbrev pub value : Session → History → Cell → Option ℕ
-value s h (sent blob index) = option_and_then (λ (build : Build). sent_byte s.limits h build index) (build_in (builds s.limits.page h) blob)
+value s h (sent blob index) = option_and_then (λ (build : Build). sent_byte s.limits h build index) (build_in (builds (page_limit s) h) blob)
 value s h (filed name stamp index) = option_and_then (λ (bytes : List ℕ). slice_get bytes index) (content h name stamp)
 value s h (lent slot index) = option_and_then (λ (bytes : List ℕ). slice_get bytes index) (slot_bytes s.outside slot)
 
@@ -34,7 +34,7 @@ is_paged page h cell = option_map_or (λ (piece : Piece). is_in_page (place page
 
 -- whether nothing tells the cell's byte: its object tells nothing, or its piece is in a page file of a disk that tells nothing
 abbrev pub is_untold : Session → History → Cell → Bool
-is_untold s h (sent blob index) = elim (s.outside.disk_tells) [ true ↦ false | false ↦ is_paged s.limits.page h (sent blob index) ]
+is_untold s h (sent blob index) = elim (s.outside.disk_tells) [ true ↦ false | false ↦ is_paged (page_limit s) h (sent blob index) ]
 is_untold s h (filed name stamp index) = false
 is_untold s h (lent slot index) = tells_nothing (slice_get s.outside.slots slot)
 

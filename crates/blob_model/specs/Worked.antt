@@ -33,7 +33,12 @@ AllIllegal list = AllByRecursion (λ (worked : Worked). IsLegalSession worked �
 
 -- a line with its answers, and the four numbers of the tally behind it
 abbrev pub group : Event → List Answer → ℕ → ℕ → ℕ → ℕ → Group
-group event answers pieces memory files disk = record { event = event; answers = answers; tally = record { pieces = pieces; memory = memory; files = files; disk = disk } }
+group event answers pieces memory files disk = record {
+  event = event;
+  answers = answers;
+  tally = record
+      { pieces = pieces; memory = memory; files = files; disk = disk };
+}
 
 abbrev pub renderer : ℕ → RendererId
 renderer number = record { 0 = number }
@@ -64,21 +69,25 @@ are_some memory big segment page chunk = nat_lt 0 memory && (nat_lt 0 big && (na
 
 abbrev pub are_bounded : (memory disk inline_max segment page chunk : ℕ) → Bool
 are_bounded memory disk inline_max segment page chunk =
-    nat_le memory (2 ^ 30) && (nat_le disk (2 ^ 40) && (nat_le inline_max (2 ^ 18) && (nat_le segment (2 ^ 18) && (nat_le page (2 ^ 18) && nat_le chunk (2 ^ 16)))))
+    nat_le memory (2 ^ 30)
+    && (nat_le disk (2 ^ 40) && (nat_le inline_max (2 ^ 18) && (nat_le segment (2 ^ 18) && (nat_le page (2 ^ 18) && nat_le chunk (2 ^ 16)))))
 
 abbrev pub are_within : (memory big page : ℕ) → Bool
 are_within memory big page = nat_le big memory && nat_le page memory
 
 -- the limits of seven numbers, in the order of their line
-abbrev pub limits_of : (memory disk big inline_max segment page chunk : ℕ) → are_some memory big segment page chunk ≡ true → are_bounded memory disk inline_max segment page chunk ≡ true
+abbrev pub limits_of : (memory disk big inline_max segment page chunk : ℕ) → are_some memory big segment page chunk ≡ true → are_bounded memory disk inline_max
+    segment page chunk ≡ true
     → are_within memory big page ≡ true → Limits
 limits_of memory disk big inline_max segment page chunk some bounded within =
     let some_more = and_parts (nat_lt 0 memory) (nat_lt 0 big && (nat_lt 0 segment && (nat_lt 0 page && nat_lt 0 chunk))) some in
     let some_big = and_parts (nat_lt 0 big) (nat_lt 0 segment && (nat_lt 0 page && nat_lt 0 chunk)) some_more.1 in
     let some_segment = and_parts (nat_lt 0 segment) (nat_lt 0 page && nat_lt 0 chunk) some_big.1 in
     let some_page = and_parts (nat_lt 0 page) (nat_lt 0 chunk) some_segment.1 in
-    let low_memory = and_parts (nat_le memory (2 ^ 30)) (nat_le disk (2 ^ 40) && (nat_le inline_max (2 ^ 18) && (nat_le segment (2 ^ 18) && (nat_le page (2 ^ 18) && nat_le chunk (2 ^ 16))))) bounded in
-    let low_disk = and_parts (nat_le disk (2 ^ 40)) (nat_le inline_max (2 ^ 18) && (nat_le segment (2 ^ 18) && (nat_le page (2 ^ 18) && nat_le chunk (2 ^ 16)))) low_memory.1 in
+    let low_memory = and_parts (nat_le memory (2 ^ 30)) (nat_le disk (2 ^ 40)
+    && (nat_le inline_max (2 ^ 18) && (nat_le segment (2 ^ 18) && (nat_le page (2 ^ 18) && nat_le chunk (2 ^ 16))))) bounded in
+    let low_disk = and_parts (nat_le disk (2 ^ 40)) (nat_le inline_max (2 ^ 18) && (nat_le segment (2 ^ 18) && (nat_le page (2 ^ 18) && nat_le chunk (2 ^ 16))))
+    low_memory.1 in
     let low_inline = and_parts (nat_le inline_max (2 ^ 18)) (nat_le segment (2 ^ 18) && (nat_le page (2 ^ 18) && nat_le chunk (2 ^ 16))) low_disk.1 in
     let low_segment = and_parts (nat_le segment (2 ^ 18)) (nat_le page (2 ^ 18) && nat_le chunk (2 ^ 16)) low_inline.1 in
     let low_page = and_parts (nat_le page (2 ^ 18)) (nat_le chunk (2 ^ 16)) low_segment.1 in

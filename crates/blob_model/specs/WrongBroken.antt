@@ -1,4 +1,5 @@
--- Wrong transcripts of worked sessions: lines that are refused or break their blob. Each has another answer, another tally, or an answer of settling less or more. Own.
+-- Wrong transcripts of worked sessions: lines that are refused or break their blob. Each has another answer, another tally, or an answer of settling less or
+-- more. Own.
 use Rattle.std.specs.Prelude.{List, [], ◌∷◌, codes}
 use Rattle.session_script.specs.declared.event.Event.TheVariants as events
 use Rattle.session_script.specs.declared.event.Part.TheVariants as parts
@@ -26,7 +27,8 @@ broken_at_line_other_plan = replaced 8 (group (events.Build (renderer 1) 5 [] []
 
 -- broken_at_line: another tally
 abbrev pub broken_at_line_other_tally : Worked
-broken_at_line_other_tally = replaced 2 (group (events.Build (renderer 1) 1 [] (parts.BlobRange 1 0 0 ∷ [])) (answers.Broken 1 statuses.InvalidArguments ∷ []) 0 1 0 0) broken_at_line
+broken_at_line_other_tally = replaced 2 (group (events.Build (renderer 1) 1 [] (parts.BlobRange 1 0 0 ∷ [])) (answers.Broken 1 statuses.InvalidArguments ∷ []) 0
+    1 0 0) broken_at_line
 
 -- broken_at_line: an answer of settling is missing
 abbrev pub broken_at_line_less : Worked
@@ -34,7 +36,8 @@ broken_at_line_less = replaced 8 (group (events.Build (renderer 1) 5 [] []) (ans
 
 -- broken_at_line: a further answer of settling
 abbrev pub broken_at_line_more : Worked
-broken_at_line_more = replaced 2 (group (events.Build (renderer 1) 1 [] (parts.BlobRange 1 0 0 ∷ [])) (answers.Broken 1 statuses.InvalidArguments ∷ answers.Done 1 ∷ []) 0 0 0 0) broken_at_line
+broken_at_line_more = replaced 2 (group (events.Build (renderer 1) 1 [] (parts.BlobRange 1 0 0 ∷ []))
+    (answers.Broken 1 statuses.InvalidArguments ∷ answers.Done 1 ∷ []) 0 0 0 0) broken_at_line
 
 -- all of these
 abbrev pub wrong_broken : List Worked

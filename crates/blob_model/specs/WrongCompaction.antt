@@ -14,7 +14,8 @@ moved_other_byte = replaced 8 (group (events.Step (reader 1)) (answers.Given (re
 
 -- moved: another tally
 abbrev pub moved_other_tally : Worked
-moved_other_tally = replaced 1 (group (events.Build (renderer 1) 1 [] (parts.Embedded (1 ∷ []) ∷ [])) (answers.Planned plans.Inline ∷ answers.Done 1 ∷ []) 1 2 0 0) moved
+moved_other_tally = replaced 1 (group (events.Build (renderer 1) 1 [] (parts.Embedded (1 ∷ []) ∷ [])) (answers.Planned plans.Inline ∷ answers.Done 1 ∷ []) 1 2 0
+    0) moved
 
 -- moved: an answer of settling is missing
 abbrev pub moved_less : Worked
@@ -22,19 +23,23 @@ moved_less = replaced 9 (group events.Finish (answers.Good ∷ answers.Dropped 3
 
 -- moved: a further answer of settling
 abbrev pub moved_more : Worked
-moved_more = replaced 1 (group (events.Build (renderer 1) 1 [] (parts.Embedded (1 ∷ []) ∷ [])) (answers.Planned plans.Inline ∷ answers.Done 1 ∷ answers.Dropped 1 ∷ []) 1 1 0 0) moved
+moved_more = replaced 1 (group (events.Build (renderer 1) 1 [] (parts.Embedded (1 ∷ []) ∷ []))
+    (answers.Planned plans.Inline ∷ answers.Done 1 ∷ answers.Dropped 1 ∷ []) 1 1 0 0) moved
 
 -- moved: the whole page file is copied
 abbrev pub moved_whole_copied : Worked
-moved_whole_copied = replaced 6 (group (events.Disk (job_no 1)) (answers.Moved (job_no 1) (page_no 1) (piece_list (0 ∷ 1 ∷ [])) ∷ answers.Removed (page_no 0) ∷ []) 2 8 1 7) moved
+moved_whole_copied = replaced 6 (group (events.Disk (job_no 1)) (answers.Moved (job_no 1) (page_no 1) (piece_list (0 ∷ 1 ∷ [])) ∷ answers.Removed (page_no 0)
+    ∷ []) 2 8 1 7) moved
 
 -- move_unread: another plan
 abbrev pub move_unread_other_plan : Worked
-move_unread_other_plan = replaced 1 (group (events.Build (renderer 1) 1 [] (parts.Embedded (1 ∷ []) ∷ [])) (answers.Planned (plans.Shared 1) ∷ answers.Done 1 ∷ []) 1 1 0 0) move_unread
+move_unread_other_plan = replaced 1 (group (events.Build (renderer 1) 1 [] (parts.Embedded (1 ∷ []) ∷ []))
+    (answers.Planned (plans.Shared 1) ∷ answers.Done 1 ∷ []) 1 1 0 0) move_unread
 
 -- move_unread: another tally
 abbrev pub move_unread_other_tally : Worked
-move_unread_other_tally = replaced 1 (group (events.Build (renderer 1) 1 [] (parts.Embedded (1 ∷ []) ∷ [])) (answers.Planned plans.Inline ∷ answers.Done 1 ∷ []) 1 2 0 0) move_unread
+move_unread_other_tally = replaced 1 (group (events.Build (renderer 1) 1 [] (parts.Embedded (1 ∷ []) ∷ [])) (answers.Planned plans.Inline ∷ answers.Done 1 ∷ [])
+    1 2 0 0) move_unread
 
 -- move_unread: an answer of settling is missing
 abbrev pub move_unread_less : Worked
@@ -42,15 +47,18 @@ move_unread_less = replaced 7 (group events.Finish (answers.Good ∷ answers.Dro
 
 -- move_unread: a further answer of settling
 abbrev pub move_unread_more : Worked
-move_unread_more = replaced 1 (group (events.Build (renderer 1) 1 [] (parts.Embedded (1 ∷ []) ∷ [])) (answers.Planned plans.Inline ∷ answers.Done 1 ∷ answers.Dropped 1 ∷ []) 1 1 0 0) move_unread
+move_unread_more = replaced 1 (group (events.Build (renderer 1) 1 [] (parts.Embedded (1 ∷ []) ∷ []))
+    (answers.Planned plans.Inline ∷ answers.Done 1 ∷ answers.Dropped 1 ∷ []) 1 1 0 0) move_unread
 
 -- move_failed: another plan
 abbrev pub move_failed_other_plan : Worked
-move_failed_other_plan = replaced 1 (group (events.Build (renderer 1) 1 [] (parts.Embedded (1 ∷ []) ∷ [])) (answers.Planned (plans.Shared 1) ∷ answers.Done 1 ∷ []) 1 1 0 0) move_failed
+move_failed_other_plan = replaced 1 (group (events.Build (renderer 1) 1 [] (parts.Embedded (1 ∷ []) ∷ []))
+    (answers.Planned (plans.Shared 1) ∷ answers.Done 1 ∷ []) 1 1 0 0) move_failed
 
 -- move_failed: another tally
 abbrev pub move_failed_other_tally : Worked
-move_failed_other_tally = replaced 1 (group (events.Build (renderer 1) 1 [] (parts.Embedded (1 ∷ []) ∷ [])) (answers.Planned plans.Inline ∷ answers.Done 1 ∷ []) 1 2 0 0) move_failed
+move_failed_other_tally = replaced 1 (group (events.Build (renderer 1) 1 [] (parts.Embedded (1 ∷ []) ∷ [])) (answers.Planned plans.Inline ∷ answers.Done 1 ∷ [])
+    1 2 0 0) move_failed
 
 -- move_failed: an answer of settling is missing
 abbrev pub move_failed_less : Worked
@@ -58,15 +66,18 @@ move_failed_less = replaced 7 (group events.Finish (answers.Good ∷ answers.Dro
 
 -- move_failed: a further answer of settling
 abbrev pub move_failed_more : Worked
-move_failed_more = replaced 1 (group (events.Build (renderer 1) 1 [] (parts.Embedded (1 ∷ []) ∷ [])) (answers.Planned plans.Inline ∷ answers.Done 1 ∷ answers.Dropped 1 ∷ []) 1 1 0 0) move_failed
+move_failed_more = replaced 1 (group (events.Build (renderer 1) 1 [] (parts.Embedded (1 ∷ []) ∷ []))
+    (answers.Planned plans.Inline ∷ answers.Done 1 ∷ answers.Dropped 1 ∷ []) 1 1 0 0) move_failed
 
 -- no_room: another plan
 abbrev pub no_room_other_plan : Worked
-no_room_other_plan = replaced 1 (group (events.Build (renderer 1) 1 [] (parts.Embedded (1 ∷ []) ∷ [])) (answers.Planned (plans.Shared 1) ∷ answers.Done 1 ∷ []) 1 1 0 0) no_room
+no_room_other_plan = replaced 1 (group (events.Build (renderer 1) 1 [] (parts.Embedded (1 ∷ []) ∷ [])) (answers.Planned (plans.Shared 1) ∷ answers.Done 1 ∷ [])
+    1 1 0 0) no_room
 
 -- no_room: another tally
 abbrev pub no_room_other_tally : Worked
-no_room_other_tally = replaced 1 (group (events.Build (renderer 1) 1 [] (parts.Embedded (1 ∷ []) ∷ [])) (answers.Planned plans.Inline ∷ answers.Done 1 ∷ []) 1 2 0 0) no_room
+no_room_other_tally = replaced 1 (group (events.Build (renderer 1) 1 [] (parts.Embedded (1 ∷ []) ∷ [])) (answers.Planned plans.Inline ∷ answers.Done 1 ∷ []) 1 2
+    0 0) no_room
 
 -- no_room: an answer of settling is missing
 abbrev pub no_room_less : Worked
@@ -74,15 +85,18 @@ no_room_less = replaced 6 (group events.Finish (answers.Good ∷ answers.Dropped
 
 -- no_room: a further answer of settling
 abbrev pub no_room_more : Worked
-no_room_more = replaced 1 (group (events.Build (renderer 1) 1 [] (parts.Embedded (1 ∷ []) ∷ [])) (answers.Planned plans.Inline ∷ answers.Done 1 ∷ answers.Dropped 1 ∷ []) 1 1 0 0) no_room
+no_room_more = replaced 1 (group (events.Build (renderer 1) 1 [] (parts.Embedded (1 ∷ []) ∷ []))
+    (answers.Planned plans.Inline ∷ answers.Done 1 ∷ answers.Dropped 1 ∷ []) 1 1 0 0) no_room
 
 -- nothing_left: another plan
 abbrev pub nothing_left_other_plan : Worked
-nothing_left_other_plan = replaced 1 (group (events.Build (renderer 1) 1 [] (parts.Embedded (1 ∷ []) ∷ [])) (answers.Planned (plans.Shared 1) ∷ answers.Done 1 ∷ []) 1 1 0 0) nothing_left
+nothing_left_other_plan = replaced 1 (group (events.Build (renderer 1) 1 [] (parts.Embedded (1 ∷ []) ∷ []))
+    (answers.Planned (plans.Shared 1) ∷ answers.Done 1 ∷ []) 1 1 0 0) nothing_left
 
 -- nothing_left: another tally
 abbrev pub nothing_left_other_tally : Worked
-nothing_left_other_tally = replaced 1 (group (events.Build (renderer 1) 1 [] (parts.Embedded (1 ∷ []) ∷ [])) (answers.Planned plans.Inline ∷ answers.Done 1 ∷ []) 1 2 0 0) nothing_left
+nothing_left_other_tally = replaced 1 (group (events.Build (renderer 1) 1 [] (parts.Embedded (1 ∷ []) ∷ []))
+    (answers.Planned plans.Inline ∷ answers.Done 1 ∷ []) 1 2 0 0) nothing_left
 
 -- nothing_left: an answer of settling is missing
 abbrev pub nothing_left_less : Worked
@@ -90,7 +104,8 @@ nothing_left_less = replaced 8 (group events.Finish (answers.Good ∷ []) 0 0 0 
 
 -- nothing_left: a further answer of settling
 abbrev pub nothing_left_more : Worked
-nothing_left_more = replaced 1 (group (events.Build (renderer 1) 1 [] (parts.Embedded (1 ∷ []) ∷ [])) (answers.Planned plans.Inline ∷ answers.Done 1 ∷ answers.Dropped 1 ∷ []) 1 1 0 0) nothing_left
+nothing_left_more = replaced 1 (group (events.Build (renderer 1) 1 [] (parts.Embedded (1 ∷ []) ∷ []))
+    (answers.Planned plans.Inline ∷ answers.Done 1 ∷ answers.Dropped 1 ∷ []) 1 1 0 0) nothing_left
 
 -- all of these
 abbrev pub wrong_compaction : List Worked

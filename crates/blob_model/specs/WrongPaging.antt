@@ -14,7 +14,8 @@ page_job_other_byte = replaced 9 (group (events.Step (reader 2)) (answers.Given 
 
 -- page_job: another tally
 abbrev pub page_job_other_tally : Worked
-page_job_other_tally = replaced 1 (group (events.Build (renderer 1) 1 [] (parts.Embedded (codes "abcd") ∷ [])) (answers.Planned plans.Inline ∷ answers.Done 1 ∷ []) 1 5 0 0) page_job
+page_job_other_tally = replaced 1 (group (events.Build (renderer 1) 1 [] (parts.Embedded (codes "abcd") ∷ []))
+    (answers.Planned plans.Inline ∷ answers.Done 1 ∷ []) 1 5 0 0) page_job
 
 -- page_job: an answer of settling is missing
 abbrev pub page_job_less : Worked
@@ -22,15 +23,18 @@ page_job_less = replaced 14 (group events.Finish (answers.Good ∷ []) 0 0 0 0) 
 
 -- page_job: a further answer of settling
 abbrev pub page_job_more : Worked
-page_job_more = replaced 1 (group (events.Build (renderer 1) 1 [] (parts.Embedded (codes "abcd") ∷ [])) (answers.Planned plans.Inline ∷ answers.Done 1 ∷ answers.Dropped 1 ∷ []) 1 4 0 0) page_job
+page_job_more = replaced 1 (group (events.Build (renderer 1) 1 [] (parts.Embedded (codes "abcd") ∷ []))
+    (answers.Planned plans.Inline ∷ answers.Done 1 ∷ answers.Dropped 1 ∷ []) 1 4 0 0) page_job
 
 -- page_job: the latest use is paged first
 abbrev pub page_job_latest_first : Worked
-page_job_latest_first = replaced 4 (group (events.Build (renderer 1) 3 [] (parts.Asked 5 ∷ [])) (answers.Planned (plans.Shared 2) ∷ answers.Job (job_no 0) (piece_list (1 ∷ 0 ∷ [])) ∷ []) 2 8 0 8) page_job
+page_job_latest_first = replaced 4 (group (events.Build (renderer 1) 3 [] (parts.Asked 5 ∷ []))
+    (answers.Planned (plans.Shared 2) ∷ answers.Job (job_no 0) (piece_list (1 ∷ 0 ∷ [])) ∷ []) 2 8 0 8) page_job
 
 -- page_job: pieces are paged when the job starts
 abbrev pub page_job_paged_too_early : Worked
-page_job_paged_too_early = replaced 4 (group (events.Build (renderer 1) 3 [] (parts.Asked 5 ∷ [])) (answers.Planned (plans.Shared 2) ∷ answers.Job (job_no 0) (piece_list (0 ∷ 1 ∷ [])) ∷ []) 2 0 0 8) page_job
+page_job_paged_too_early = replaced 4 (group (events.Build (renderer 1) 3 [] (parts.Asked 5 ∷ []))
+    (answers.Planned (plans.Shared 2) ∷ answers.Job (job_no 0) (piece_list (0 ∷ 1 ∷ [])) ∷ []) 2 0 0 8) page_job
 
 -- page_job: a paged piece is kept in memory too
 abbrev pub page_job_copy_kept : Worked
@@ -42,7 +46,8 @@ page_unread_other_byte = replaced 5 (group (events.Step (reader 1)) (answers.Giv
 
 -- page_unread: another tally
 abbrev pub page_unread_other_tally : Worked
-page_unread_other_tally = replaced 1 (group (events.Build (renderer 1) 1 [] (parts.Embedded (codes "abcd") ∷ [])) (answers.Planned plans.Inline ∷ answers.Done 1 ∷ []) 1 5 0 0) page_unread
+page_unread_other_tally = replaced 1 (group (events.Build (renderer 1) 1 [] (parts.Embedded (codes "abcd") ∷ []))
+    (answers.Planned plans.Inline ∷ answers.Done 1 ∷ []) 1 5 0 0) page_unread
 
 -- page_unread: an answer of settling is missing
 abbrev pub page_unread_less : Worked
@@ -50,7 +55,8 @@ page_unread_less = replaced 14 (group events.Finish (answers.Good ∷ []) 0 0 0 
 
 -- page_unread: a further answer of settling
 abbrev pub page_unread_more : Worked
-page_unread_more = replaced 1 (group (events.Build (renderer 1) 1 [] (parts.Embedded (codes "abcd") ∷ [])) (answers.Planned plans.Inline ∷ answers.Done 1 ∷ answers.Dropped 1 ∷ []) 1 4 0 0) page_unread
+page_unread_more = replaced 1 (group (events.Build (renderer 1) 1 [] (parts.Embedded (codes "abcd") ∷ []))
+    (answers.Planned plans.Inline ∷ answers.Done 1 ∷ answers.Dropped 1 ∷ []) 1 4 0 0) page_unread
 
 -- page_failed: another byte
 abbrev pub page_failed_other_byte : Worked
@@ -58,7 +64,8 @@ page_failed_other_byte = replaced 9 (group (events.Step (reader 2)) (answers.Giv
 
 -- page_failed: another tally
 abbrev pub page_failed_other_tally : Worked
-page_failed_other_tally = replaced 1 (group (events.Build (renderer 1) 1 [] (parts.Embedded (codes "abcd") ∷ [])) (answers.Planned plans.Inline ∷ answers.Done 1 ∷ []) 1 5 0 0) page_failed
+page_failed_other_tally = replaced 1 (group (events.Build (renderer 1) 1 [] (parts.Embedded (codes "abcd") ∷ []))
+    (answers.Planned plans.Inline ∷ answers.Done 1 ∷ []) 1 5 0 0) page_failed
 
 -- page_failed: an answer of settling is missing
 abbrev pub page_failed_less : Worked
@@ -66,11 +73,13 @@ page_failed_less = replaced 11 (group events.Finish (answers.Good ∷ []) 0 0 0 
 
 -- page_failed: a further answer of settling
 abbrev pub page_failed_more : Worked
-page_failed_more = replaced 1 (group (events.Build (renderer 1) 1 [] (parts.Embedded (codes "abcd") ∷ [])) (answers.Planned plans.Inline ∷ answers.Done 1 ∷ answers.Dropped 1 ∷ []) 1 4 0 0) page_failed
+page_failed_more = replaced 1 (group (events.Build (renderer 1) 1 [] (parts.Embedded (codes "abcd") ∷ []))
+    (answers.Planned plans.Inline ∷ answers.Done 1 ∷ answers.Dropped 1 ∷ []) 1 4 0 0) page_failed
 
 -- page_failed: a failed write drops the pieces
 abbrev pub page_failed_pieces_dropped : Worked
-page_failed_pieces_dropped = replaced 7 (group (events.Disk (job_no 0)) (answers.PageFailed (job_no 0) (page_no 0) ∷ answers.Granted 3 ∷ []) 1 5 0 0) page_failed
+page_failed_pieces_dropped = replaced 7 (group (events.Disk (job_no 0)) (answers.PageFailed (job_no 0) (page_no 0) ∷ answers.Granted 3 ∷ []) 1 5 0 0)
+    page_failed
 
 -- page_failed: and their bytes are gone
 abbrev pub page_failed_bytes_gone : Worked
@@ -82,7 +91,8 @@ page_left_other_byte = replaced 9 (group (events.Step (reader 2)) (answers.Given
 
 -- page_left: another tally
 abbrev pub page_left_other_tally : Worked
-page_left_other_tally = replaced 1 (group (events.Build (renderer 1) 1 [] (parts.Embedded (codes "abcd") ∷ [])) (answers.Planned plans.Inline ∷ answers.Done 1 ∷ []) 1 5 0 0) page_left
+page_left_other_tally = replaced 1 (group (events.Build (renderer 1) 1 [] (parts.Embedded (codes "abcd") ∷ []))
+    (answers.Planned plans.Inline ∷ answers.Done 1 ∷ []) 1 5 0 0) page_left
 
 -- page_left: an answer of settling is missing
 abbrev pub page_left_less : Worked
@@ -90,15 +100,18 @@ page_left_less = replaced 14 (group events.Finish (answers.Good ∷ []) 0 0 0 0)
 
 -- page_left: a further answer of settling
 abbrev pub page_left_more : Worked
-page_left_more = replaced 1 (group (events.Build (renderer 1) 1 [] (parts.Embedded (codes "abcd") ∷ [])) (answers.Planned plans.Inline ∷ answers.Done 1 ∷ answers.Dropped 1 ∷ []) 1 4 0 0) page_left
+page_left_more = replaced 1 (group (events.Build (renderer 1) 1 [] (parts.Embedded (codes "abcd") ∷ []))
+    (answers.Planned plans.Inline ∷ answers.Done 1 ∷ answers.Dropped 1 ∷ []) 1 4 0 0) page_left
 
 -- job_lost: another plan
 abbrev pub job_lost_other_plan : Worked
-job_lost_other_plan = replaced 1 (group (events.Build (renderer 1) 1 [] (parts.Embedded (codes "abcd") ∷ [])) (answers.Planned (plans.Shared 1) ∷ answers.Done 1 ∷ []) 1 4 0 0) job_lost
+job_lost_other_plan = replaced 1 (group (events.Build (renderer 1) 1 [] (parts.Embedded (codes "abcd") ∷ []))
+    (answers.Planned (plans.Shared 1) ∷ answers.Done 1 ∷ []) 1 4 0 0) job_lost
 
 -- job_lost: another tally
 abbrev pub job_lost_other_tally : Worked
-job_lost_other_tally = replaced 1 (group (events.Build (renderer 1) 1 [] (parts.Embedded (codes "abcd") ∷ [])) (answers.Planned plans.Inline ∷ answers.Done 1 ∷ []) 1 5 0 0) job_lost
+job_lost_other_tally = replaced 1 (group (events.Build (renderer 1) 1 [] (parts.Embedded (codes "abcd") ∷ []))
+    (answers.Planned plans.Inline ∷ answers.Done 1 ∷ []) 1 5 0 0) job_lost
 
 -- job_lost: an answer of settling is missing
 abbrev pub job_lost_less : Worked
@@ -106,7 +119,8 @@ job_lost_less = replaced 10 (group events.Finish (answers.Good ∷ []) 0 0 0 0) 
 
 -- job_lost: a further answer of settling
 abbrev pub job_lost_more : Worked
-job_lost_more = replaced 1 (group (events.Build (renderer 1) 1 [] (parts.Embedded (codes "abcd") ∷ [])) (answers.Planned plans.Inline ∷ answers.Done 1 ∷ answers.Dropped 1 ∷ []) 1 4 0 0) job_lost
+job_lost_more = replaced 1 (group (events.Build (renderer 1) 1 [] (parts.Embedded (codes "abcd") ∷ []))
+    (answers.Planned plans.Inline ∷ answers.Done 1 ∷ answers.Dropped 1 ∷ []) 1 4 0 0) job_lost
 
 -- all of these
 abbrev pub wrong_paging : List Worked

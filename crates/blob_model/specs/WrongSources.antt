@@ -13,15 +13,18 @@ file_changes_other_byte = replaced 4 (group (events.Step (reader 1)) (answers.Gi
 
 -- file_changes: another tally
 abbrev pub file_changes_other_tally : Worked
-file_changes_other_tally = replaced 2 (group (events.Build (renderer 1) 1 [] (parts.FileRange (codes "a.txt") 1 4 5 ∷ [])) (answers.Planned plans.None ∷ answers.Done 1 ∷ []) 0 1 0 0) file_changes
+file_changes_other_tally = replaced 2 (group (events.Build (renderer 1) 1 [] (parts.FileRange (codes "a.txt") 1 4 5 ∷ []))
+    (answers.Planned plans.None ∷ answers.Done 1 ∷ []) 0 1 0 0) file_changes
 
 -- file_changes: an answer of settling is missing
 abbrev pub file_changes_less : Worked
-file_changes_less = replaced 2 (group (events.Build (renderer 1) 1 [] (parts.FileRange (codes "a.txt") 1 4 5 ∷ [])) (answers.Planned plans.None ∷ []) 0 0 0 0) file_changes
+file_changes_less = replaced 2 (group (events.Build (renderer 1) 1 [] (parts.FileRange (codes "a.txt") 1 4 5 ∷ [])) (answers.Planned plans.None ∷ []) 0 0 0 0)
+    file_changes
 
 -- file_changes: a further answer of settling
 abbrev pub file_changes_more : Worked
-file_changes_more = replaced 2 (group (events.Build (renderer 1) 1 [] (parts.FileRange (codes "a.txt") 1 4 5 ∷ [])) (answers.Planned plans.None ∷ answers.Done 1 ∷ answers.Dropped 1 ∷ []) 0 0 0 0) file_changes
+file_changes_more = replaced 2 (group (events.Build (renderer 1) 1 [] (parts.FileRange (codes "a.txt") 1 4 5 ∷ []))
+    (answers.Planned plans.None ∷ answers.Done 1 ∷ answers.Dropped 1 ∷ []) 0 0 0 0) file_changes
 
 -- file_changes: a file is looked at when its reader opens alone
 abbrev pub file_changes_checked_at_open : Worked
@@ -33,7 +36,8 @@ blob_urls_other_byte = replaced 14 (group (events.Step (reader 1)) (answers.Give
 
 -- blob_urls: another tally
 abbrev pub blob_urls_other_tally : Worked
-blob_urls_other_tally = replaced 3 (group (events.Build (renderer 1) 1 [] (parts.Embedded (codes "abc") ∷ [])) (answers.Planned plans.Inline ∷ answers.Done 1 ∷ []) 1 4 0 0) blob_urls
+blob_urls_other_tally = replaced 3 (group (events.Build (renderer 1) 1 [] (parts.Embedded (codes "abc") ∷ []))
+    (answers.Planned plans.Inline ∷ answers.Done 1 ∷ []) 1 4 0 0) blob_urls
 
 -- blob_urls: an answer of settling is missing
 abbrev pub blob_urls_less : Worked
@@ -41,15 +45,19 @@ blob_urls_less = replaced 16 (group (events.Build (renderer 1) 2 [] (parts.Embed
 
 -- blob_urls: a further answer of settling
 abbrev pub blob_urls_more : Worked
-blob_urls_more = replaced 3 (group (events.Build (renderer 1) 1 [] (parts.Embedded (codes "abc") ∷ [])) (answers.Planned plans.Inline ∷ answers.Done 1 ∷ answers.Dropped 1 ∷ []) 1 3 0 0) blob_urls
+blob_urls_more = replaced 3 (group (events.Build (renderer 1) 1 [] (parts.Embedded (codes "abc") ∷ []))
+    (answers.Planned plans.Inline ∷ answers.Done 1 ∷ answers.Dropped 1 ∷ []) 1 3 0 0) blob_urls
 
 -- blob_urls: the URL of a dead renderer resolves
 abbrev pub blob_urls_dead_url_held : Worked
-blob_urls_dead_url_held = replaced 20 (group (events.Fetch (renderer 3) (reader 2) (codes "blob:https://a.test/00000000-0000-0000-0000-000000000009") 0 None) (answers.Opened (reader 2) 1 [] ∷ []) 1 1 0 0) (replaced 19 (group (events.Die (renderer 1)) (answers.Good ∷ []) 1 1 0 0) blob_urls)
+blob_urls_dead_url_held = replaced 20 (group (events.Fetch (renderer 3) (reader 2) (codes "blob:https://a.test/00000000-0000-0000-0000-000000000009") 0 None)
+    (answers.Opened (reader 2) 1 [] ∷ []) 1 1 0 0) (replaced 19 (group (events.Die (renderer 1)) (answers.Good ∷ []) 1 1 0 0) blob_urls)
 
 -- blob_urls: and is resolved after its end
 abbrev pub blob_urls_dead_url_resolved : Worked
-blob_urls_dead_url_resolved = replaced 20 (group (events.Fetch (renderer 3) (reader 2) (codes "blob:https://a.test/00000000-0000-0000-0000-000000000009") 0 None) (answers.Opened (reader 2) 1 [] ∷ []) 0 0 0 0) blob_urls
+blob_urls_dead_url_resolved =
+    replaced 20 (group (events.Fetch (renderer 3) (reader 2) (codes "blob:https://a.test/00000000-0000-0000-0000-000000000009") 0 None)
+    (answers.Opened (reader 2) 1 [] ∷ []) 0 0 0 0) blob_urls
 
 -- data_handle: another byte
 abbrev pub data_handle_other_byte : Worked
@@ -57,7 +65,8 @@ data_handle_other_byte = replaced 6 (group (events.Step (reader 2)) (answers.Giv
 
 -- data_handle: another tally
 abbrev pub data_handle_other_tally : Worked
-data_handle_other_tally = replaced 1 (group (events.Build (renderer 1) 1 [] (parts.HandleRange 0 0 3 ∷ [])) (answers.Planned plans.None ∷ answers.Done 1 ∷ []) 0 1 0 0) data_handle
+data_handle_other_tally = replaced 1 (group (events.Build (renderer 1) 1 [] (parts.HandleRange 0 0 3 ∷ [])) (answers.Planned plans.None ∷ answers.Done 1 ∷ []) 0
+    1 0 0) data_handle
 
 -- data_handle: an answer of settling is missing
 abbrev pub data_handle_less : Worked
@@ -65,7 +74,8 @@ data_handle_less = replaced 2 (group (events.Slice (renderer 1) 2 1 (Some (pos 1
 
 -- data_handle: a further answer of settling
 abbrev pub data_handle_more : Worked
-data_handle_more = replaced 1 (group (events.Build (renderer 1) 1 [] (parts.HandleRange 0 0 3 ∷ [])) (answers.Planned plans.None ∷ answers.Done 1 ∷ answers.Dropped 1 ∷ []) 0 0 0 0) data_handle
+data_handle_more = replaced 1 (group (events.Build (renderer 1) 1 [] (parts.HandleRange 0 0 3 ∷ []))
+    (answers.Planned plans.None ∷ answers.Done 1 ∷ answers.Dropped 1 ∷ []) 0 0 0 0) data_handle
 
 -- all of these
 abbrev pub wrong_sources : List Worked

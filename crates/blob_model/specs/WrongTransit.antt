@@ -14,7 +14,8 @@ unfinished_source_other_byte = replaced 8 (group (events.Step (reader 1)) (answe
 
 -- unfinished_source: another tally
 abbrev pub unfinished_source_other_tally : Worked
-unfinished_source_other_tally = replaced 1 (group (events.Build (renderer 1) 1 [] (parts.Asked 6 ∷ [])) (answers.Planned (plans.Shared 2) ∷ answers.Granted 1 ∷ []) 1 7 0 0) unfinished_source
+unfinished_source_other_tally = replaced 1 (group (events.Build (renderer 1) 1 [] (parts.Asked 6 ∷ []))
+    (answers.Planned (plans.Shared 2) ∷ answers.Granted 1 ∷ []) 1 7 0 0) unfinished_source
 
 -- unfinished_source: an answer of settling is missing
 abbrev pub unfinished_source_less : Worked
@@ -22,15 +23,18 @@ unfinished_source_less = replaced 6 (group (events.Segment (renderer 1) 1 0 (cod
 
 -- unfinished_source: a further answer of settling
 abbrev pub unfinished_source_more : Worked
-unfinished_source_more = replaced 1 (group (events.Build (renderer 1) 1 [] (parts.Asked 6 ∷ [])) (answers.Planned (plans.Shared 2) ∷ answers.Granted 1 ∷ answers.Done 1 ∷ []) 1 6 0 0) unfinished_source
+unfinished_source_more = replaced 1 (group (events.Build (renderer 1) 1 [] (parts.Asked 6 ∷ []))
+    (answers.Planned (plans.Shared 2) ∷ answers.Granted 1 ∷ answers.Done 1 ∷ []) 1 6 0 0) unfinished_source
 
 -- builder_dies: another plan
 abbrev pub builder_dies_other_plan : Worked
-builder_dies_other_plan = replaced 3 (group (events.Build (renderer 1) 1 [] (parts.Asked 6 ∷ [])) (answers.Planned plans.Inline ∷ answers.Granted 1 ∷ []) 1 6 0 0) builder_dies
+builder_dies_other_plan = replaced 3 (group (events.Build (renderer 1) 1 [] (parts.Asked 6 ∷ [])) (answers.Planned plans.Inline ∷ answers.Granted 1 ∷ []) 1 6 0
+    0) builder_dies
 
 -- builder_dies: another tally
 abbrev pub builder_dies_other_tally : Worked
-builder_dies_other_tally = replaced 3 (group (events.Build (renderer 1) 1 [] (parts.Asked 6 ∷ [])) (answers.Planned (plans.Shared 2) ∷ answers.Granted 1 ∷ []) 1 7 0 0) builder_dies
+builder_dies_other_tally = replaced 3 (group (events.Build (renderer 1) 1 [] (parts.Asked 6 ∷ [])) (answers.Planned (plans.Shared 2) ∷ answers.Granted 1 ∷ []) 1
+    7 0 0) builder_dies
 
 -- builder_dies: an answer of settling is missing
 abbrev pub builder_dies_less : Worked
@@ -38,15 +42,18 @@ builder_dies_less = replaced 9 (group (events.Die (renderer 1)) (answers.Good �
 
 -- builder_dies: a further answer of settling
 abbrev pub builder_dies_more : Worked
-builder_dies_more = replaced 3 (group (events.Build (renderer 1) 1 [] (parts.Asked 6 ∷ [])) (answers.Planned (plans.Shared 2) ∷ answers.Granted 1 ∷ answers.Done 1 ∷ []) 1 6 0 0) builder_dies
+builder_dies_more = replaced 3 (group (events.Build (renderer 1) 1 [] (parts.Asked 6 ∷ []))
+    (answers.Planned (plans.Shared 2) ∷ answers.Granted 1 ∷ answers.Done 1 ∷ []) 1 6 0 0) builder_dies
 
 -- nobody_holds: another plan
 abbrev pub nobody_holds_other_plan : Worked
-nobody_holds_other_plan = replaced 1 (group (events.Build (renderer 1) 1 [] (parts.Asked 6 ∷ [])) (answers.Planned plans.Inline ∷ answers.Granted 1 ∷ []) 1 6 0 0) nobody_holds
+nobody_holds_other_plan = replaced 1 (group (events.Build (renderer 1) 1 [] (parts.Asked 6 ∷ [])) (answers.Planned plans.Inline ∷ answers.Granted 1 ∷ []) 1 6 0
+    0) nobody_holds
 
 -- nobody_holds: another tally
 abbrev pub nobody_holds_other_tally : Worked
-nobody_holds_other_tally = replaced 1 (group (events.Build (renderer 1) 1 [] (parts.Asked 6 ∷ [])) (answers.Planned (plans.Shared 2) ∷ answers.Granted 1 ∷ []) 1 7 0 0) nobody_holds
+nobody_holds_other_tally = replaced 1 (group (events.Build (renderer 1) 1 [] (parts.Asked 6 ∷ [])) (answers.Planned (plans.Shared 2) ∷ answers.Granted 1 ∷ []) 1
+    7 0 0) nobody_holds
 
 -- nobody_holds: an answer of settling is missing
 abbrev pub nobody_holds_less : Worked
@@ -54,7 +61,8 @@ nobody_holds_less = replaced 2 (group (events.Die (renderer 1)) (answers.Good �
 
 -- nobody_holds: a further answer of settling
 abbrev pub nobody_holds_more : Worked
-nobody_holds_more = replaced 1 (group (events.Build (renderer 1) 1 [] (parts.Asked 6 ∷ [])) (answers.Planned (plans.Shared 2) ∷ answers.Granted 1 ∷ answers.Done 1 ∷ []) 1 6 0 0) nobody_holds
+nobody_holds_more = replaced 1 (group (events.Build (renderer 1) 1 [] (parts.Asked 6 ∷ []))
+    (answers.Planned (plans.Shared 2) ∷ answers.Granted 1 ∷ answers.Done 1 ∷ []) 1 6 0 0) nobody_holds
 
 -- out_of_order: another byte
 abbrev pub out_of_order_other_byte : Worked
@@ -62,7 +70,8 @@ out_of_order_other_byte = replaced 11 (group (events.Step (reader 1)) (answers.G
 
 -- out_of_order: another tally
 abbrev pub out_of_order_other_tally : Worked
-out_of_order_other_tally = replaced 1 (group (events.Build (renderer 1) 1 [] (parts.Asked 10 ∷ [])) (answers.Planned (plans.Shared 3) ∷ answers.Granted 1 ∷ []) 2 11 0 0) out_of_order
+out_of_order_other_tally = replaced 1 (group (events.Build (renderer 1) 1 [] (parts.Asked 10 ∷ [])) (answers.Planned (plans.Shared 3) ∷ answers.Granted 1 ∷ [])
+    2 11 0 0) out_of_order
 
 -- out_of_order: an answer of settling is missing
 abbrev pub out_of_order_less : Worked
@@ -70,7 +79,8 @@ out_of_order_less = replaced 7 (group (events.Segment (renderer 1) 1 1 (codes "e
 
 -- out_of_order: a further answer of settling
 abbrev pub out_of_order_more : Worked
-out_of_order_more = replaced 1 (group (events.Build (renderer 1) 1 [] (parts.Asked 10 ∷ [])) (answers.Planned (plans.Shared 3) ∷ answers.Granted 1 ∷ answers.Done 1 ∷ []) 2 10 0 0) out_of_order
+out_of_order_more = replaced 1 (group (events.Build (renderer 1) 1 [] (parts.Asked 10 ∷ []))
+    (answers.Planned (plans.Shared 3) ∷ answers.Granted 1 ∷ answers.Done 1 ∷ []) 2 10 0 0) out_of_order
 
 -- out_of_order: segments are put together as they come
 abbrev pub out_of_order_by_arrival : Worked

@@ -9,11 +9,13 @@ use Rattle.blob_model.specs.RowsUpload.{upload}
 
 -- upload: another byte
 abbrev pub upload_other_byte : Worked
-upload_other_byte = replaced 11 (group (events.Step (reader 2)) (answers.Given (reader 2) (45 ∷ 45 ∷ 120 ∷ 255 ∷ 216 ∷ 255 ∷ 224 ∷ 45 ∷ 45 ∷ 120 ∷ 45 ∷ 46 ∷ []) ∷ []) 2 8 0 0) upload
+upload_other_byte = replaced 11 (group (events.Step (reader 2)) (answers.Given (reader 2) (45 ∷ 45 ∷ 120 ∷ 255 ∷ 216 ∷ 255 ∷ 224 ∷ 45 ∷ 45 ∷ 120 ∷ 45 ∷ 46 ∷ [])
+    ∷ []) 2 8 0 0) upload
 
 -- upload: another tally
 abbrev pub upload_other_tally : Worked
-upload_other_tally = replaced 3 (group (events.Build (renderer 1) 1 (codes "image/jpeg") (parts.FileRange (codes "photo.jpg") 0 12 1700000000 ∷ [])) (answers.Planned plans.None ∷ answers.Done 1 ∷ []) 0 1 0 0) upload
+upload_other_tally = replaced 3 (group (events.Build (renderer 1) 1 (codes "image/jpeg") (parts.FileRange (codes "photo.jpg") 0 12 1700000000 ∷ []))
+    (answers.Planned plans.None ∷ answers.Done 1 ∷ []) 0 1 0 0) upload
 
 -- upload: an answer of settling is missing
 abbrev pub upload_less : Worked
@@ -21,7 +23,8 @@ upload_less = replaced 19 (group events.Finish (answers.Good ∷ []) 0 0 0 0) up
 
 -- upload: a further answer of settling
 abbrev pub upload_more : Worked
-upload_more = replaced 3 (group (events.Build (renderer 1) 1 (codes "image/jpeg") (parts.FileRange (codes "photo.jpg") 0 12 1700000000 ∷ [])) (answers.Planned plans.None ∷ answers.Done 1 ∷ answers.Dropped 1 ∷ []) 0 0 0 0) upload
+upload_more = replaced 3 (group (events.Build (renderer 1) 1 (codes "image/jpeg") (parts.FileRange (codes "photo.jpg") 0 12 1700000000 ∷ []))
+    (answers.Planned plans.None ∷ answers.Done 1 ∷ answers.Dropped 1 ∷ []) 0 0 0 0) upload
 
 -- all of these
 abbrev pub wrong_upload : List Worked

@@ -22,4 +22,5 @@ dependents book source = dependents_from book.names source 0 book.entries
 
 -- those of what stands under a name, if something does
 abbrev pub dependents_of : Book → ℕ → Option (List ℕ)
-dependents_of book name = option_and_then (λ (number : ℕ). option_map (λ (entry : Entry). dependents book number) (entry_at book.entries number)) (number_of name book.names)
+dependents_of book name = option_and_then (λ (number : ℕ). option_map (λ (entry : Entry). dependents book number) (entry_at book.entries number))
+    (number_of name book.names)

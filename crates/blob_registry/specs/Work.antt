@@ -70,9 +70,11 @@ pub record Looked (before after : Book) (work later : Work) (number : ℕ) (list
   pub below : (other : ℕ) → other ≤ number → (other ≢ number → slice_index work.looks other ≢ 0) → slice_index later.looks other ≢ 0
 
 -- an entry was weighed, what goes with it noted, and its number taken off the list
-pub record Weighed (before after : Book) (work later : Work) (number : ℕ) (names more : List ℕ) (shares then : List (Option Share)) (freed next : List Item) : Type 0 where
+pub record Weighed (before after : Book) (work later : Work) (number : ℕ) (names more : List ℕ) (shares then : List (Option Share)) (freed next : List Item) :
+    Type 0 where
   pub goes : Goes before after number names more shares then freed next
-  pub above : (other : ℕ) → number ≤ other → other < MOST_BLOBS → (other ≢ number → slice_index work.weighs (turned other) ≢ 0) → slice_index later.weighs (turned other) ≢ 0
+  pub above : (other : ℕ) → number ≤ other → other < MOST_BLOBS → (other ≢ number → slice_index work.weighs (turned other) ≢ 0) → slice_index later.weighs
+      (turned other) ≢ 0
 
 -- nothing is said otherwise
 pub record StaysAs (before after : Work) : Type 0 where

@@ -9,9 +9,11 @@ drop_front items ahead from to count is_ahead ordered within =
     let rest = to - (from + count) in
     let long = ap length is_ahead in
     let whole : count + rest ≡ to - from = omega (arith, length-take (to - from) (drop from items)) in
-    ap (take rest) (sym (drop-drop count from items)) ∙ sym (drop-take count rest (drop from items)) ∙ ap (λ k. drop count (take k (drop from items))) whole ∙ ap (drop count) is_ahead
+    ap (take rest) (sym (drop-drop count from items)) ∙ sym (drop-take count rest (drop from items)) ∙ ap (λ k. drop count (take k (drop from items))) whole ∙
+    ap (drop count) is_ahead
 
 -- what is left is the front that goes and the rest
 pub split_front : (items front : List ℕ) (from count : ℕ) → front ≡ take count (drop from items) → drop from items ≡ front ++ drop (from + count) items
 split_front items front from count is_front =
-    sym (take-append-drop count (drop from items)) ∙ ap (λ xs. xs ++ drop count (drop from items)) (sym is_front) ∙ ap (λ xs. front ++ xs) (drop-drop count from items)
+    sym (take-append-drop count (drop from items)) ∙ ap (λ xs. xs ++ drop count (drop from items)) (sym is_front) ∙ ap (λ xs. front ++ xs)
+    (drop-drop count from items)

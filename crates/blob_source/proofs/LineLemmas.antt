@@ -35,7 +35,8 @@ moves_all ahead new line longer bytes count is_bytes none is_new is_longer = rec
   part = bytes;
   plain = has_line_feed_none bytes none;
   ahead =
-      sym (take-append-drop count ahead) ∙ ap (λ xs. xs ++ drop count ahead) (sym is_bytes ∙ sym (append-nil bytes)) ∙ ap (λ xs. (bytes ++ []) ++ xs) (sym is_new);
+      sym (take-append-drop count ahead) ∙ ap (λ xs. xs ++ drop count ahead) (sym is_bytes ∙ sym (append-nil bytes)) ∙ ap (λ xs. (bytes ++ []) ++ xs)
+      (sym is_new);
   line_is = is_longer;
 }
 

@@ -15,7 +15,8 @@ pub went_more : (old mid new : Option (List ℕ)) (bytes rest after : List ℕ) 
 went_more old mid new bytes rest after n went more is_after = record {
   front = went.front ++ take n rest;
   whole =
-      went.whole ∙ ap (λ tail. went.front ++ tail) (sym (take-append-drop n rest) ∙ ap (λ tail. take n rest ++ tail) (sym is_after)) ∙ sym (append_assoc went.front (take n rest) after);
+      went.whole ∙ ap (λ tail. went.front ++ tail) (sym (take-append-drop n rest) ∙ ap (λ tail. take n rest ++ tail) (sym is_after)) ∙ sym
+      (append_assoc went.front (take n rest) after);
   appended = Appends-trans old mid new went.front (take n rest) went.appended more;
 }
 

@@ -27,13 +27,15 @@ module _ {V : Type 0} where
       let rest = lookup_seen name entries in
       λ i. cond (same i) (Some entry.1) (rest i)
 
-  pub insert_seen : (key : Vec ℕ Global) (value : V) (entries : List (Vec ℕ Global × V)) → seen (insert_entry key_cmp entries key value) ≡ insert_entry (slice_cmp nat_cmp) (seen entries) key.items value
+  pub insert_seen : (key : Vec ℕ Global) (value : V) (entries : List (Vec ℕ Global × V)) → seen (insert_entry key_cmp entries key value)
+      ≡ insert_entry (slice_cmp nat_cmp) (seen entries) key.items value
   insert_seen key value [] = refl
   insert_seen key value (entry ∷ entries) = by (key_cmp key entry.0) (insert_seen key value entries)
     where
       by : (r : Ordering) → seen (insert_entry key_cmp entries key value) ≡ insert_entry (slice_cmp nat_cmp) (seen entries) key.items value
           → seen (match_ordering r ((key, value) ∷ entry ∷ entries) ((entry.0, value) ∷ entries) (entry ∷ insert_entry key_cmp entries key value))
-          ≡ match_ordering r ((key.items, value) ∷ seen (entry ∷ entries)) ((entry.0.items, value) ∷ seen entries) ((entry.0.items, entry.1) ∷ insert_entry (slice_cmp nat_cmp) (seen entries) key.items value)
+          ≡ match_ordering r ((key.items, value) ∷ seen (entry ∷ entries)) ((entry.0.items, value) ∷ seen entries)
+          ((entry.0.items, entry.1) ∷ insert_entry (slice_cmp nat_cmp) (seen entries) key.items value)
       by Less rest = refl
       by Equal rest = refl
       by Greater rest = ap (λ more. (entry.0.items, entry.1) ∷ more) rest

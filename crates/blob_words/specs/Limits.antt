@@ -18,7 +18,8 @@ abbrev pub large_field : ℕ → ℕ → ℕ → ℕ → ℕ → ℕ → Option 
 large_field memory disk inline_max segment page chunk =
     option_map (λ (entry : Field × ℕ × ℕ). entry.0)
     (find (λ (entry : Field × ℕ × ℕ). nat_lt entry.2 entry.1)
-    ((Memory, memory, 2 ^ 30) ∷ (Disk, disk, 2 ^ 40) ∷ (InlineMax, inline_max, 2 ^ 18) ∷ (Segment, segment, 2 ^ 18) ∷ (Page, page, 2 ^ 18) ∷ (Chunk, chunk, 2 ^ 16) ∷ []))
+    ((Memory, memory, 2 ^ 30) ∷ (Disk, disk, 2 ^ 40) ∷ (InlineMax, inline_max, 2 ^ 18) ∷ (Segment, segment, 2 ^ 18) ∷ (Page, page, 2 ^ 18)
+    ∷ (Chunk, chunk, 2 ^ 16) ∷ []))
 
 -- a 0 counts before a value that is too large, and that before the order of the fields
 abbrev pub first_fault : Option Field → Option Field → Bool → Option LimitFault

@@ -52,7 +52,8 @@ counted_table slots past k one new there is =
     ∙ sym (rw there refl)
 
 -- a slot that is claimed
-pub claimed_table : (slots : List Slot) (past k : ℕ) (one new : Slot) → slice_get slots k ≡ Some one → new ≡ claimed one → table_of (set slots k new) past ≡ claimed_at (table_of slots past) k
+pub claimed_table : (slots : List Slot) (past k : ℕ) (one new : Slot) → slice_get slots k ≡ Some one → new ≡ claimed one → table_of (set slots k new) past
+    ≡ claimed_at (table_of slots past) k
 claimed_table slots past k one new there is = ap (λ (slot : Slot). table_of (set slots k slot) past) is ∙ sym (rw there refl)
 
 -- a slot whose object goes
@@ -61,7 +62,8 @@ pub released_table : (slots : List Slot) (past k count : ℕ) (one new : Slot) �
 released_table slots past k count one new there is counts = (λ i. table_of (set slots k (is i)) (past + counts i)) ∙ sym (rw there refl)
 
 -- the count of the table outlives the object
-pub released_count : (slots : List Slot) (past k : ℕ) (one : Slot) → slice_get slots k ≡ Some one → count_of (released_at (table_of slots past) k) ≡ count_of (table_of slots past)
+pub released_count : (slots : List Slot) (past k : ℕ) (one : Slot) → slice_get slots k ≡ Some one → count_of (released_at (table_of slots past) k)
+    ≡ count_of (table_of slots past)
 released_count slots past k one there =
     let within = slice_get_within slots k one there in
     let here : get_or slots k one ≡ one = get_or_from_slice_get slots k one one there in
@@ -76,8 +78,10 @@ module _ {H : Type 0} (seen : H → Handle) where
   slots_of items = map (slot_of seen) items
 
   -- the slot of a place
-  pub slot_there : (items : List (Place H)) (k : ℕ) (place : Place H) → place ≡ get_or items k place → k < length items → slice_get (slots_of items) k ≡ Some (slot_of seen place)
-  slot_there items k place is within = slice_get-map (slot_of seen) items k ∙ ap (λ found. option_map (slot_of seen) found) (slice_get_read items (length items) k place refl within is)
+  pub slot_there : (items : List (Place H)) (k : ℕ) (place : Place H) → place ≡ get_or items k place → k < length items → slice_get (slots_of items) k
+      ≡ Some (slot_of seen place)
+  slot_there items k place is within = slice_get-map (slot_of seen) items k ∙ ap (λ found. option_map (slot_of seen) found)
+      (slice_get_read items (length items) k place refl within is)
 
   -- a place with an object is one of the table's
   pub place_within : (P : Handle → Type 0) (items : List (Place H)) (past k : ℕ) → IsSomeAnd (object_at (table_of (slots_of items) past) k) P → k < length items
@@ -86,20 +90,26 @@ module _ {H : Type 0} (seen : H → Handle) where
   pub held_within : (items : List (Place H)) (past k : ℕ) → IsSome (object_at (table_of (slots_of items) past) k) → k < length items
   held_within items past k there = let within = is_held_within (table_of (slots_of items) past) k there in rw length-map at within
 
-  pub old_object : (items : List (Place H)) (past k : ℕ) (place : Place H) → slice_get (slots_of items) k ≡ Some (slot_of seen place) → object_at (table_of (slots_of items) past) k ≡ (slot_of seen place).object
+  pub old_object : (items : List (Place H)) (past k : ℕ) (place : Place H) → slice_get (slots_of items) k ≡ Some (slot_of seen place)
+      → object_at (table_of (slots_of items) past) k ≡ (slot_of seen place).object
   old_object items past k place there = rw there refl
 
-  pub old_claim : (items : List (Place H)) (past k : ℕ) (place : Place H) → slice_get (slots_of items) k ≡ Some (slot_of seen place) → is_claimed_at (table_of (slots_of items) past) k ≡ place.is_claimed
+  pub old_claim : (items : List (Place H)) (past k : ℕ) (place : Place H) → slice_get (slots_of items) k ≡ Some (slot_of seen place)
+      → is_claimed_at (table_of (slots_of items) past) k ≡ place.is_claimed
   old_claim items past k place there = rw there refl
 
-  pub old_faults : (items : List (Place H)) (past k : ℕ) (place : Place H) → slice_get (slots_of items) k ≡ Some (slot_of seen place) → faults_at (table_of (slots_of items) past) k ≡ slot_faults (slot_of seen place)
+  pub old_faults : (items : List (Place H)) (past k : ℕ) (place : Place H) → slice_get (slots_of items) k ≡ Some (slot_of seen place)
+      → faults_at (table_of (slots_of items) past) k ≡ slot_faults (slot_of seen place)
   old_faults items past k place there = rw there refl
 
-  pub new_faults : (items : List (Place H)) (past k : ℕ) (place new : Place H) → slice_get (slots_of items) k ≡ Some (slot_of seen place) → faults_at (table_of (slots_of (set items k new)) past) k ≡ slot_faults (slot_of seen new)
+  pub new_faults : (items : List (Place H)) (past k : ℕ) (place new : Place H) → slice_get (slots_of items) k ≡ Some (slot_of seen place)
+      → faults_at (table_of (slots_of (set items k new)) past) k ≡ slot_faults (slot_of seen new)
   new_faults items past k place new there =
-      ap (λ slots. faults_at (table_of slots past) k) (map-set (slot_of seen) items k new) ∙ counts (slots_of items) past k (slot_of seen place) (slot_of seen new) there
+      ap (λ slots. faults_at (table_of slots past) k) (map-set (slot_of seen) items k new) ∙ counts (slots_of items) past k (slot_of seen place)
+      (slot_of seen new) there
 
-  pub counted_places : (items : List (Place H)) (past k : ℕ) (place new : Place H) → slice_get (slots_of items) k ≡ Some (slot_of seen place) → slot_of seen new ≡ counted (slot_faults (slot_of seen new)) (slot_of seen place)
+  pub counted_places : (items : List (Place H)) (past k : ℕ) (place new : Place H) → slice_get (slots_of items) k ≡ Some (slot_of seen place) → slot_of seen new
+      ≡ counted (slot_faults (slot_of seen new)) (slot_of seen place)
       → table_of (slots_of (set items k new)) past ≡ counted_at (table_of (slots_of items) past) k (faults_at (table_of (slots_of (set items k new)) past) k)
   counted_places items past k place new there is =
       let same = map-set (slot_of seen) items k new in
@@ -107,21 +117,26 @@ module _ {H : Type 0} (seen : H → Handle) where
       ∙ ap (λ slots. counted_at (table_of (slots_of items) past) k (faults_at (table_of slots past) k)) (sym same)
 
   -- a place that is seen as before
-  pub same_places : (items : List (Place H)) (past k : ℕ) (place new : Place H) → slice_get (slots_of items) k ≡ Some (slot_of seen place) → slot_of seen new ≡ slot_of seen place
+  pub same_places : (items : List (Place H)) (past k : ℕ) (place new : Place H) → slice_get (slots_of items) k ≡ Some (slot_of seen place) → slot_of seen new
+      ≡ slot_of seen place
       → table_of (slots_of (set items k new)) past ≡ table_of (slots_of items) past
   same_places items past k place new there is =
       let same : set (slots_of items) k (slot_of seen place) ≡ slots_of items = unwritten (slots_of items) k (slot_of seen place) there in
       ap (λ slots. table_of slots past) (map-set (slot_of seen) items k new ∙ ap (set (slots_of items) k) is ∙ same)
 
-  pub claimed_places : (items : List (Place H)) (past k : ℕ) (place new : Place H) → slice_get (slots_of items) k ≡ Some (slot_of seen place) → slot_of seen new ≡ claimed (slot_of seen place)
+  pub claimed_places : (items : List (Place H)) (past k : ℕ) (place new : Place H) → slice_get (slots_of items) k ≡ Some (slot_of seen place) → slot_of seen new
+      ≡ claimed (slot_of seen place)
       → table_of (slots_of (set items k new)) past ≡ claimed_at (table_of (slots_of items) past) k
   claimed_places items past k place new there is =
-      ap (λ slots. table_of slots past) (map-set (slot_of seen) items k new) ∙ claimed_table (slots_of items) past k (slot_of seen place) (slot_of seen new) there is
+      ap (λ slots. table_of slots past) (map-set (slot_of seen) items k new) ∙ claimed_table (slots_of items) past k (slot_of seen place) (slot_of seen new)
+      there is
 
-  pub released_places : (items : List (Place H)) (past k count : ℕ) (place new : Place H) → slice_get (slots_of items) k ≡ Some (slot_of seen place) → slot_of seen new ≡ emptied (slot_of seen place) → count ≡ slot_faults (slot_of seen place)
+  pub released_places : (items : List (Place H)) (past k count : ℕ) (place new : Place H) → slice_get (slots_of items) k ≡ Some (slot_of seen place)
+      → slot_of seen new ≡ emptied (slot_of seen place) → count ≡ slot_faults (slot_of seen place)
       → table_of (slots_of (set items k new)) (past + count) ≡ released_at (table_of (slots_of items) past) k
   released_places items past k count place new there is counts =
-      ap (λ slots. table_of slots (past + count)) (map-set (slot_of seen) items k new) ∙ released_table (slots_of items) past k count (slot_of seen place) (slot_of seen new) there is counts
+      ap (λ slots. table_of slots (past + count)) (map-set (slot_of seen) items k new) ∙ released_table (slots_of items) past k count (slot_of seen place)
+      (slot_of seen new) there is counts
 
 -- 1 for a place that holds nothing
 abbrev pub gap : {H : Type 0} → Place H → ℕ
@@ -136,7 +151,8 @@ gaps_le [] = omega arith
 gaps_le (place ∷ items) = let one = gap_by (is_some place.object) in let more = sum_by-cons gap place items in omega (arith, one, more, gaps_le items)
 
 -- one more place that holds nothing
-pub gaps_more : {H : Type 0} (items : List (Place H)) (k : ℕ) (place new : Place H) → place ≡ get_or items k place → k < length items → is_some place.object ≡ true → is_some new.object ≡ false → sum_by gap (set items k new) ≡ sum_by gap items + 1
+pub gaps_more : {H : Type 0} (items : List (Place H)) (k : ℕ) (place new : Place H) → place ≡ get_or items k place → k < length items → is_some place.object
+    ≡ true → is_some new.object ≡ false → sum_by gap (set items k new) ≡ sum_by gap items + 1
 gaps_more items k place new is within some none =
     let sums = sum_by-set gap items k new place within in
     let old : gap (get_or items k place) ≡ 0 = ap gap (sym is) ∙ rw some refl in

@@ -16,22 +16,28 @@ use Rattle.blob_words.proofs.Keyed.{seen}
 
 module _ {V : Type 0} where
   -- a name below a key is none of those after the key
-  none_after : (name : List ℕ) (key : Vec ℕ Global) (entries : List (Vec ℕ Global × V)) → order_of name key ≡ Less → AllByRecursion (λ later. key_cmp key later ≡ Less) (keys_of entries) → lookup (is_at (order_of name)) entries ≡ None
+  none_after : (name : List ℕ) (key : Vec ℕ Global) (entries : List (Vec ℕ Global × V)) → order_of name key ≡ Less
+      → AllByRecursion (λ later. key_cmp key later ≡ Less) (keys_of entries) → lookup (is_at (order_of name)) entries ≡ None
   none_after name key [] below later = refl
   none_after name key (entry ∷ entries) below later =
       let apart : order_of name entry.0 ≡ Less = nat_list_cmp_total.trans name key.items entry.0.items below later.0 in
       rw apart (none_after name key entries below later.1)
 
   -- a value that is written at a key that is there goes where an insertion would put it
-  pub written_seen : (name : List ℕ) (value : V) (entries : List (Vec ℕ Global × V)) → IsStrictlySortedBy key_cmp (keys_of entries) → IsSome (lookup (is_at (order_of name)) entries)
+  pub written_seen : (name : List ℕ) (value : V) (entries : List (Vec ℕ Global × V)) → IsStrictlySortedBy key_cmp (keys_of entries)
+      → IsSome (lookup (is_at (order_of name)) entries)
       → seen (set_value (is_at (order_of name)) entries value) ≡ insert_entry (slice_cmp nat_cmp) (seen entries) name value
   written_seen name value [] sorted some = cc
-  written_seen name value (entry ∷ entries) sorted some = by (order_of name entry.0) refl some (written_seen name value entries (sorted_tail key_cmp entry.0 (keys_of entries) sorted))
+  written_seen name value (entry ∷ entries) sorted some = by (order_of name entry.0) refl some
+      (written_seen name value entries (sorted_tail key_cmp entry.0 (keys_of entries) sorted))
     where
       by : (r : Ordering) → order_of name entry.0 ≡ r → IsSome (cond (is_eq r) (Some entry.1) (lookup (is_at (order_of name)) entries))
-          → (IsSome (lookup (is_at (order_of name)) entries) → seen (set_value (is_at (order_of name)) entries value) ≡ insert_entry (slice_cmp nat_cmp) (seen entries) name value)
+          → (IsSome (lookup (is_at (order_of name)) entries) → seen (set_value (is_at (order_of name)) entries value) ≡ insert_entry (slice_cmp nat_cmp)
+          (seen entries) name value)
           → seen (cond (is_eq r) ((entry.0, value) ∷ entries) (entry ∷ set_value (is_at (order_of name)) entries value))
-          ≡ match_ordering r ((name, value) ∷ seen (entry ∷ entries)) ((entry.0.items, value) ∷ seen entries) ((entry.0.items, entry.1) ∷ insert_entry (slice_cmp nat_cmp) (seen entries) name value)
-      by Less is some rest = let none = none_after name entry.0 entries is (sorted_head key_cmp entry.0 (keys_of entries) sorted) in let found = subst IsSome none some in cc
+          ≡ match_ordering r ((name, value) ∷ seen (entry ∷ entries)) ((entry.0.items, value) ∷ seen entries)
+          ((entry.0.items, entry.1) ∷ insert_entry (slice_cmp nat_cmp) (seen entries) name value)
+      by Less is some rest = let none = none_after name entry.0 entries is (sorted_head key_cmp entry.0 (keys_of entries) sorted) in
+          let found = subst IsSome none some in cc
       by Equal is some rest = refl
       by Greater is some rest = ap (λ more. (entry.0.items, entry.1) ∷ more) (rest some)

@@ -38,7 +38,8 @@ halves : (node : ℕ) → (node ≡ node / 2 * 2) ⊎ (node ≡ node / 2 * 2 + 1
 halves node = elim (cases_lt (node / 2 * 2) node) [ inl odd ↦ inr (omega arith) | inr even ↦ inl (omega arith) ]
 
 -- no node is less than the one above it
-pub above_least : (leaves : ℕ) (nodes : List ℕ) → IsTree leaves nodes → (node : ℕ) → 1 < node → node < 2 * leaves → get_or nodes (node / 2) 0 ≤ get_or nodes node 0
+pub above_least : (leaves : ℕ) (nodes : List ℕ) → IsTree leaves nodes → (node : ℕ) → 1 < node → node < 2 * leaves → get_or nodes (node / 2) 0 ≤ get_or nodes
+    node 0
 above_least leaves nodes tree node some within =
     let lesser : IsLesser nodes (node / 2) = tree.lesser (node / 2) (omega arith) (omega arith) in
     elim (halves node) [
@@ -50,7 +51,8 @@ above_least leaves nodes tree node some within =
           omega arith
     ]
 
-root_least_by : (most leaves : ℕ) (nodes : List ℕ) → IsTree leaves nodes → (node : ℕ) → node ≤ most → 0 < node → node < 2 * leaves → get_or nodes 1 0 ≤ get_or nodes node 0
+root_least_by : (most leaves : ℕ) (nodes : List ℕ) → IsTree leaves nodes → (node : ℕ) → node ≤ most → 0 < node → node < 2 * leaves → get_or nodes 1 0 ≤ get_or
+    nodes node 0
 root_least_by zero leaves nodes tree node fuel some within = absurd (omega arith)
 root_least_by (suc most) leaves nodes tree node fuel some within = elim (cases_lt 1 node) [
   | inl below ↦

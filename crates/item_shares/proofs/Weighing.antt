@@ -16,7 +16,8 @@ module _ {X : Type 0} (f : Option X → ℕ) (none : f None ≡ 0) where
   sum_same : (xs ys : List (Option X)) → ((k : ℕ) → get_or ys k None ≡ get_or xs k None) → sum_by f ys ≡ sum_by f xs
   sum_same [] ys same = sum_none ys same
   sum_same (x ∷ xs) [] same = sym (sum_none (x ∷ xs) (λ k. sym (same k)))
-  sum_same (x ∷ xs) (y ∷ ys) same = let here : f y ≡ f x = ap f (same 0) in omega (arith, sum_by-cons f x xs, sum_by-cons f y ys, here, sum_same xs ys (λ k. same (suc k)))
+  sum_same (x ∷ xs) (y ∷ ys) same = let here : f y ≡ f x = ap f (same 0) in
+      omega (arith, sum_by-cons f x xs, sum_by-cons f y ys, here, sum_same xs ys (λ k. same (suc k)))
 
   -- one slot changes, of lists of any lengths
   pub sum_changed : (xs ys : List (Option X)) (slot : ℕ) → ((k : ℕ) → k ≢ slot → get_or ys k None ≡ get_or xs k None)
@@ -26,7 +27,8 @@ module _ {X : Type 0} (f : Option X → ℕ) (none : f None ≡ 0) where
   sum_changed [] (y ∷ ys) (suc slot) others =
       let here : f y ≡ 0 = ap f (others 0 (λ e. omega (arith, e))) ∙ none in
       omega (arith, sum_by-cons f y ys, here, sum_changed [] ys slot (λ k ne. others (suc k) (λ e. ne (omega (arith, e)))))
-  sum_changed (x ∷ xs) [] zero others = let rest = sum_none xs (λ k. sym (others (suc k) (λ e. omega (arith, e)))) in omega (arith, sum_by-cons f x xs, rest, none)
+  sum_changed (x ∷ xs) [] zero others = let rest = sum_none xs (λ k. sym (others (suc k) (λ e. omega (arith, e)))) in
+      omega (arith, sum_by-cons f x xs, rest, none)
   sum_changed (x ∷ xs) [] (suc slot) others =
       let here : f x ≡ 0 = ap f (sym (others 0 (λ e. omega (arith, e)))) ∙ none in
       omega (arith, sum_by-cons f x xs, here, sum_changed xs [] slot (λ k ne. others (suc k) (λ e. ne (omega (arith, e)))))

@@ -19,7 +19,8 @@ pub record Write : Type 0 where
   pub len : ℕ
   pub bytes : List ℕ
 
--- a disk over memory: what was done, the open write, which calls are to fail, which appends and seals are, how many of each came, and how many failed, and how many bytes were read
+-- a disk over memory: what was done, the open write, which calls are to fail, which appends and seals are, how many of each came, and how many failed, and how
+-- many bytes were read
 pub record Disk : Type 0 where
   pub changes : List Change
   pub write : Option Write

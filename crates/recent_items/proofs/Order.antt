@@ -19,7 +19,8 @@ is_piece piece entry = nat_eq piece entry.0
 pub reverse_cons : (entry : ℕ × ℕ) (entries : List (ℕ × ℕ)) → reverse (entry ∷ entries) ≡ reverse entries ++ entry ∷ []
 reverse_cons entry entries = reverse-append (entry ∷ []) entries
 
-one_more : (keeps : Bool) (entry : ℕ × ℕ) (entries : List (ℕ × ℕ)) → reverse entries ++ cond keeps (entry ∷ []) [] ≡ reverse (cond keeps (entry ∷ entries) entries)
+one_more : (keeps : Bool) (entry : ℕ × ℕ) (entries : List (ℕ × ℕ)) → reverse entries ++ cond keeps (entry ∷ []) []
+    ≡ reverse (cond keeps (entry ∷ entries) entries)
 one_more true entry entries = sym (reverse_cons entry entries)
 one_more false entry entries = append-nil (reverse entries)
 
@@ -30,7 +31,8 @@ filter_reverse test (entry ∷ entries) =
     ∙ ap (λ front. front ++ filter test (entry ∷ [])) (filter_reverse test entries) ∙ one_more (test entry) entry (filter test entries)
 
 -- where no key is the piece, none is left out
-rest_stays : (piece : ℕ) (entries : List (ℕ × ℕ)) → AllByRecursion (λ other. nat_eq piece other ≡ false) (keys_of entries) → (without piece entries ≡ entries) × (filter (is_piece piece) entries ≡ [])
+rest_stays : (piece : ℕ) (entries : List (ℕ × ℕ)) → AllByRecursion (λ other. nat_eq piece other ≡ false) (keys_of entries) → (without piece entries ≡ entries)
+    × (filter (is_piece piece) entries ≡ [])
 rest_stays piece [] apart = (refl, refl)
 rest_stays piece (entry ∷ entries) apart =
     let on = rest_stays piece entries apart.1 in
@@ -67,17 +69,21 @@ promoted_by : (piece : ℕ) (entries : List (ℕ × ℕ)) (found : Option (ℕ �
 promoted_by piece entries None apart is = sym (absent piece entries is)
 promoted_by piece entries (Some entry) apart is = ap (λ rest. entry ∷ rest) (parts piece entries apart).left
 
-pub touched_reverse : (piece : ℕ) (entries : List (ℕ × ℕ)) → IsDistinct nat_eq (keys_of entries) → reverse (promoted (nat_eq piece) entries) ≡ touched piece (reverse entries)
+pub touched_reverse : (piece : ℕ) (entries : List (ℕ × ℕ)) → IsDistinct nat_eq (keys_of entries) → reverse (promoted (nat_eq piece) entries)
+    ≡ touched piece (reverse entries)
 touched_reverse piece entries apart =
     let own = filter (is_piece piece) entries in
     let first : promoted (nat_eq piece) entries ≡ own ++ without piece entries =
-    promoted_by piece entries (lookup_entry (nat_eq piece) entries) apart refl ∙ ap (λ front. front ++ without piece entries) (sym (parts piece entries apart).own) in
+    promoted_by piece entries (lookup_entry (nat_eq piece) entries) apart refl ∙ ap (λ front. front ++ without piece entries)
+    (sym (parts piece entries apart).own) in
     ap (λ list. reverse list) first ∙ reverse-append own (without piece entries)
     ∙ ap (λ front. front ++ reverse own) (sym (filter_reverse (λ entry. not (nat_eq piece entry.0)) entries))
     ∙ ap (λ back. without piece (reverse entries) ++ back) (sym (filter_reverse (is_piece piece) entries))
 
-pub without_reverse : (piece : ℕ) (entries : List (ℕ × ℕ)) → IsDistinct nat_eq (keys_of entries) → reverse (remove_entry (nat_eq piece) entries) ≡ without piece (reverse entries)
-without_reverse piece entries apart = ap (λ list. reverse list) (parts piece entries apart).left ∙ sym (filter_reverse (λ entry. not (nat_eq piece entry.0)) entries)
+pub without_reverse : (piece : ℕ) (entries : List (ℕ × ℕ)) → IsDistinct nat_eq (keys_of entries) → reverse (remove_entry (nat_eq piece) entries)
+    ≡ without piece (reverse entries)
+without_reverse piece entries apart = ap (λ list. reverse list) (parts piece entries apart).left ∙ sym
+    (filter_reverse (λ entry. not (nat_eq piece entry.0)) entries)
 
 both_false : (a b : Bool) → (a || (b || false)) ≡ false → (a ≡ false) × (b ≡ false)
 both_false true b none = cc
@@ -93,16 +99,19 @@ not_there piece (entry ∷ entries) none =
     rw both.1 (not_there piece entries both.0)
 
 put_by : (cache : LruCache ℕ ℕ) (piece len : ℕ) (found : Option (ℕ × ℕ)) → found ≡ None → length cache.entries ≤ cache.cap - 1
-    → option_map_or (λ entry. (entry.0, len) ∷ remove_entry (nat_eq piece) cache.entries) found ((piece, len) ∷ take (cache.cap - 1) cache.entries) ≡ (piece, len) ∷ cache.entries
+    → option_map_or (λ entry. (entry.0, len) ∷ remove_entry (nat_eq piece) cache.entries) found ((piece, len) ∷ take (cache.cap - 1) cache.entries)
+    ≡ (piece, len) ∷ cache.entries
 put_by cache piece len found none room = rw none (ap (λ rest. (piece, len) ∷ rest) (take_all (cache.cap - 1) cache.entries room))
 
 -- a piece that isn't there goes last
 pub entered_reverse : (cache : LruCache ℕ ℕ) (piece len : ℕ) → is_there piece (reverse cache.entries) ≡ false → length cache.entries ≤ cache.cap - 1
     → reverse (put_entries nat_eq cache piece len) ≡ reverse cache.entries ++ (piece, len) ∷ []
 entered_reverse cache piece len none room =
-    ap (λ list. reverse list) (put_by cache piece len (lookup_entry (nat_eq piece) cache.entries) (not_there piece cache.entries none) room) ∙ reverse_cons (piece, len) cache.entries
+    ap (λ list. reverse list) (put_by cache piece len (lookup_entry (nat_eq piece) cache.entries) (not_there piece cache.entries none) room) ∙ reverse_cons
+    (piece, len) cache.entries
 
 -- the pieces are apart from either end
 pub apart_reverse : (entries : List (ℕ × ℕ)) → IsDistinct nat_eq (keys_of entries) → IsDistinct nat_eq (keys_of (reverse entries))
 apart_reverse entries apart =
-    IsDistinct-IsPermutation nat_eq nat_eq_equiv.symm (keys_of entries) (keys_of (reverse entries)) (IsPermutation-map (λ (entry : ℕ × ℕ). entry.0) entries (reverse entries) (IsPermutation-reverse entries)) apart
+    IsDistinct-IsPermutation nat_eq nat_eq_equiv.symm (keys_of entries) (keys_of (reverse entries))
+    (IsPermutation-map (λ (entry : ℕ × ℕ). entry.0) entries (reverse entries) (IsPermutation-reverse entries)) apart

@@ -28,7 +28,8 @@ pub victims_more : (need most : ℕ) (entry : ℕ × ℕ) (pieces : List (ℕ ×
 victims_more need most entry pieces some room = rw (needed need some, fits entry.1 most room) refl
 
 -- nothing is missing any more
-pub victims_all : (front : List ℕ) (need most : ℕ) (pieces : List (ℕ × ℕ)) (whole : List ℕ) → need ≤ 0 → front ++ victims need most pieces ≡ whole → front ≡ whole
+pub victims_all : (front : List ℕ) (need most : ℕ) (pieces : List (ℕ × ℕ)) (whole : List ℕ) → need ≤ 0 → front ++ victims need most pieces ≡ whole → front
+    ≡ whole
 victims_all front need most pieces whole done is =
     let none : need ≡ 0 = omega (arith, done) in
     sym (append-nil front) ∙ ap (λ back. front ++ back) (sym (rw none (victims_none most pieces))) ∙ is

@@ -19,7 +19,7 @@ use Rattle.blob_model.specs.Jobs.{breaks_waiting, unstored}
 use Rattle.blob_model.specs.Live.{is_needed, is_rooted}
 use Rattle.blob_model.specs.Order.{named, Distinct}
 use Rattle.blob_model.specs.Renderers.{is_alive}
-use Rattle.blob_model.specs.Session.{Session}
+use Rattle.blob_model.specs.Session.{Session, page_limit}
 use Rattle.blob_model.specs.Standing.{ended, is_unfinished, was_granted}
 use Rattle.blob_model.specs.Transport.{has_all}
 use Rattle.blob_model.proofs.Lists.{all_reverse, false_true, or_first, or_second}
@@ -129,11 +129,11 @@ module _ (s : Session) (h : History) (names : List ℕ) (whole : Entries) (sound
     root = root_kept build;
   }
     where
-      root_kept : (build : Build) → is_rooted s.limits.page next build.name ≡ is_rooted s.limits.page h build.name
-      root_kept build = drops_keep (λ (g : History). is_rooted s.limits.page g build.name) (λ g name. refl) h (filter (goes h alive) (reverse all))
+      root_kept : (build : Build) → is_rooted (page_limit s) next build.name ≡ is_rooted (page_limit s) h build.name
+      root_kept build = drops_keep (λ (g : History). is_rooted (page_limit s) g build.name) (λ g name. refl) h (filter (goes h alive) (reverse all))
 
-  unrooted_kept : (build : Build) → is_rooted s.limits.page h build.name ≡ false → is_rooted s.limits.page next build.name ≡ false
-  unrooted_kept build e = drops_keep (λ (g : History). is_rooted s.limits.page g build.name) (λ g name. refl) h (filter (goes h alive) (reverse all)) ∙ e
+  unrooted_kept : (build : Build) → is_rooted (page_limit s) h build.name ≡ false → is_rooted (page_limit s) next build.name ≡ false
+  unrooted_kept build e = drops_keep (λ (g : History). is_rooted (page_limit s) g build.name) (λ g name. refl) h (filter (goes h alive) (reverse all)) ∙ e
 
   gone_over : (build : Build) → alive build.name ≡ false → EndsIn h alive next build → is_unfinished next build.name ≡ false
   gone_over build dead ends = go (is_unfinished h build.name) refl
@@ -142,19 +142,19 @@ module _ (s : Session) (h : History) (names : List ℕ) (whole : Entries) (sound
       go false e = over h (dropping (filter (goes h alive) (reverse all))) build.name e
       go true e = ends (λ i. e i && not (dead i))
 
-  left_agrees : (test model : Bool) (build : Build) (held : Option Entry) → Agrees s.limits.page h build held → TestsAgree test model held
+  left_agrees : (test model : Bool) (build : Build) (held : Option Entry) → Agrees (page_limit s) h build held → TestsAgree test model held
       → alive build.name ≡ model
-      → (model ≡ false → is_rooted s.limits.page h build.name ≡ false) → EndsIn h alive next build → Agrees s.limits.page next build (left test held)
+      → (model ≡ false → is_rooted (page_limit s) h build.name ≡ false) → EndsIn h alive next build → Agrees (page_limit s) next build (left test held)
   left_agrees test model build None agree tests at rooted ends = none test
     where
-      gone : IsGone s.limits.page next build
+      gone : IsGone (page_limit s) next build
       gone = record { ended = over h (dropping (filter (goes h alive) (reverse all))) build.name agree.ended; unrooted = unrooted_kept build agree.unrooted }
 
-      none : (b : Bool) → Agrees s.limits.page next build (left b None)
+      none : (b : Bool) → Agrees (page_limit s) next build (left b None)
       none true = gone
       none false = gone
   left_agrees true model build (Some entry) agree tests at rooted ends =
-      agrees_shed s.limits.page next build entry (agrees_as s h next build (Some entry) (stays build (at ∙ sym tests)) agree)
+      agrees_shed (page_limit s) next build entry (agrees_as s h next build (Some entry) (stays build (at ∙ sym tests)) agree)
   left_agrees false model build (Some entry) agree tests at rooted ends =
       record { ended = gone_over build (at ∙ sym tests) ends; unrooted = unrooted_kept build (rooted (sym tests)) }
 
@@ -165,42 +165,42 @@ module _ (s : Session) (h : History) (names : List ℕ) (whole : Entries) (sound
   left_marked true model build (Some entry) marked tests at =
       marked_shed s next build entry (marked_as s h next build (Some entry) (stays build (at ∙ sym tests)) marked)
 
-  told_here : (build : Build) (list : List Build) → Distinct (build ∷ list) → Tells s.limits.page h names whole sound alive (build ∷ list)
-      → alive build.name ≡ lives s.limits.page h build list
+  told_here : (build : Build) (list : List Build) → Distinct (build ∷ list) → Tells (page_limit s) h names whole sound alive (build ∷ list)
+      → alive build.name ≡ lives (page_limit s) h build list
   told_here build list distinct tells =
       tells build.name (or_first (build.name == build.name) (named build.name list) (eq-eqb build.name build.name refl))
-      ∙ lives_named s.limits.page h build list distinct.0
+      ∙ lives_named (page_limit s) h build list distinct.0
 
-  told_next : (build : Build) (list : List Build) → Distinct (build ∷ list) → Tells s.limits.page h names whole sound alive (build ∷ list)
-      → Tells s.limits.page h names whole sound alive list
+  told_next : (build : Build) (list : List Build) → Distinct (build ∷ list) → Tells (page_limit s) h names whole sound alive (build ∷ list)
+      → Tells (page_limit s) h names whole sound alive list
   told_next build list distinct tells = λ name there.
       tells name (or_second (build.name == name) (named name list) there)
-      ∙ named_next s.limits.page h build list name (other_name build list name distinct.0 there)
+      ∙ named_next (page_limit s) h build list name (other_name build list name distinct.0 there)
 
   pub swept_agrees : (number : ℕ) (list : List Build) (entries : Entries) → Distinct list → ArePlaced names number list
-      → Beside (Agrees s.limits.page h) list entries → IsBehind whole number entries
-      → Tells s.limits.page h names whole sound alive list → AllByRecursion (EndsIn h alive next) list
-      → Beside (Agrees s.limits.page next) list (swept names number entries)
+      → Beside (Agrees (page_limit s) h) list entries → IsBehind whole number entries
+      → Tells (page_limit s) h names whole sound alive list → AllByRecursion (EndsIn h alive next) list
+      → Beside (Agrees (page_limit s) next) list (swept names number entries)
   swept_agrees number [] [] distinct placed beside behind tells ends = tt
   swept_agrees number [] (held ∷ later) distinct placed beside behind tells ends = absurd beside
   swept_agrees number (build ∷ list) [] distinct placed beside behind tells ends = absurd beside
   swept_agrees number (build ∷ list) (held ∷ later) distinct placed beside behind tells ends = (
-    left_agrees (test_at names number held later) (lives s.limits.page h build list) build held beside.0
-        (tests_agree s.limits.page h names whole sound number build list held later placed beside behind) (told_here build list distinct tells)
-        (λ e. (or_parts (is_rooted s.limits.page h build.name) (is_needed h (living s.limits.page h list) build.name) e).0) ends.0,
+    left_agrees (test_at names number held later) (lives (page_limit s) h build list) build held beside.0
+        (tests_agree (page_limit s) h names whole sound number build list held later placed beside behind) (told_here build list distinct tells)
+        (λ e. (or_parts (is_rooted (page_limit s) h build.name) (is_needed h (living (page_limit s) h list) build.name) e).0) ends.0,
     swept_agrees (number + 1) list later distinct.1 placed.1 beside.1 (behind_next whole number held later behind) (told_next build list distinct tells) ends.1,
   )
 
   pub swept_marked : (number : ℕ) (list : List Build) (entries : Entries) → Distinct list → ArePlaced names number list
-      → Beside (Agrees s.limits.page h) list entries → IsBehind whole number entries
-      → Tells s.limits.page h names whole sound alive list → Beside (AgreesToEnd s h) list entries
+      → Beside (Agrees (page_limit s) h) list entries → IsBehind whole number entries
+      → Tells (page_limit s) h names whole sound alive list → Beside (AgreesToEnd s h) list entries
       → Beside (AgreesToEnd s next) list (swept names number entries)
   swept_marked number [] [] distinct placed beside behind tells marked = tt
   swept_marked number [] (held ∷ later) distinct placed beside behind tells marked = absurd beside
   swept_marked number (build ∷ list) [] distinct placed beside behind tells marked = absurd beside
   swept_marked number (build ∷ list) (held ∷ later) distinct placed beside behind tells marked = (
-    left_marked (test_at names number held later) (lives s.limits.page h build list) build held marked.0
-        (tests_agree s.limits.page h names whole sound number build list held later placed beside behind) (told_here build list distinct tells),
+    left_marked (test_at names number held later) (lives (page_limit s) h build list) build held marked.0
+        (tests_agree (page_limit s) h names whole sound number build list held later placed beside behind) (told_here build list distinct tells),
     swept_marked (number + 1) list later distinct.1 placed.1 beside.1 (behind_next whole number held later behind)
         (told_next build list distinct tells) marked.1,
   )

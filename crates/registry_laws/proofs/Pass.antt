@@ -23,7 +23,7 @@ use Rattle.blob_model.specs.Jobs.{breaks_waiting, unstored}
 use Rattle.blob_model.specs.Live.{is_rooted}
 use Rattle.blob_model.specs.Order.{named, Distinct}
 use Rattle.blob_model.specs.Renderers.{is_alive}
-use Rattle.blob_model.specs.Session.{Session}
+use Rattle.blob_model.specs.Session.{Session, page_limit}
 use Rattle.blob_model.specs.Settle as settle
 use Rattle.blob_model.specs.Settle.{ending_answers, ending_tests, endings_of, is_deserted, is_unwritten}
 use Rattle.blob_model.specs.Standing.{ended, grants_at_once, is_granted, was_granted}
@@ -52,7 +52,7 @@ pub record StandsAs (s : Session) (g next : History) (build : Build) : Type 0 wh
   pub paging : breaks_waiting s.version next ≡ breaks_waiting s.version g
   pub builder : is_alive next build.builder ≡ is_alive g build.builder
   pub segments : has_all s.limits next build ≡ has_all s.limits g build
-  pub root : is_rooted s.limits.page next build.name ≡ is_rooted s.limits.page g build.name
+  pub root : is_rooted (page_limit s) next build.name ≡ is_rooted (page_limit s) g build.name
 
 pub breaks_said : (version : Version) (h : History) (answer : Answer) → breaks_waiting version (said h answer) ≡ breaks_waiting version h
 breaks_said One h answer = refl
@@ -85,8 +85,8 @@ breaks_same s g next build same =
     λ i. not (same.builder i) && (not (same.segments i) || not (granted_as s g next build same i)) in
     λ i. first_that ((written i, statuses.FileWriteFailed) ∷ (deserted i, statuses.SourceDied) ∷ [])
 
-pub agrees_as : (s : Session) (g next : History) (build : Build) (held : Option Entry) → StandsAs s g next build → Agrees s.limits.page g build held
-    → Agrees s.limits.page next build held
+pub agrees_as : (s : Session) (g next : History) (build : Build) (held : Option Entry) → StandsAs s g next build → Agrees (page_limit s) g build held
+    → Agrees (page_limit s) next build held
 agrees_as s g next build None same agree = record {
   ended = ap (λ (o : Option Status). is_none o) same.end ∙ agree.ended;
   unrooted = same.root ∙ agree.unrooted;
@@ -126,15 +126,15 @@ module _ (s : Session) (names : List ℕ) (whole : Entries) (sound : AreSound na
 
   one_same : (earlier : Entries) (g : History) (build : Build) (held : Option Entry) → AreKnown names whole earlier g
       → IfSome held (IsSound names whole (length earlier))
-      → Agrees s.limits.page g build held → AgreesToEnd s g build held
+      → Agrees (page_limit s) g build held → AgreesToEnd s g build held
       → map ending_answer (ending_list build.name (ending_at names earlier held)) ≡ ending_answers s g build
   one_same earlier g build None known fine agree marked = sym (ap (λ (b : Bool). cond b (option_to_list (settle.ending s g build)) []) agree.ended)
-  one_same earlier g build (Some entry) known fine agree marked = end_same names whole earlier g known s s.limits.page build entry fine agree marked
+  one_same earlier g build (Some entry) known fine agree marked = end_same names whole earlier g known s (page_limit s) build entry fine agree marked
 
   -- one entry more is known
   pub known_next : (earlier : Entries) (g : History) (build : Build) (held : Option Entry) → AreKnown names whole earlier g
       → number_of build.name names ≡ Some (length earlier) → entry_at whole (length earlier) ≡ held
-      → IfSome held (IsSound names whole (length earlier)) → Agrees s.limits.page g build held → AgreesToEnd s g build held
+      → IfSome held (IsSound names whole (length earlier)) → Agrees (page_limit s) g build held → AgreesToEnd s g build held
       → AreKnown names whole (earlier ++ passed names earlier held ∷ []) (said_all g (ending_answers s g build))
   known_next earlier g build held known placed here fine agree marked = record {
     known = λ name k entry below at is. pick name k entry below at is (nat_lt k (length earlier)) refl;
@@ -167,11 +167,11 @@ module _ (s : Session) (names : List ℕ) (whole : Entries) (sound : AreSound na
           (subst (λ (n : ℕ). HasEnded (said_all g (ending_answers s g build)) n (passed names earlier held)) (sym one)
           (it held fine agree marked (sym here ∙ ap (entry_at whole) (sym same) ∙ is)))
         where
-          it : (each : Option Entry) → IfSome each (IsSound names whole (length earlier)) → Agrees s.limits.page g build each → AgreesToEnd s g build each
+          it : (each : Option Entry) → IfSome each (IsSound names whole (length earlier)) → Agrees (page_limit s) g build each → AgreesToEnd s g build each
               → each ≡ Some entry
               → HasEnded (said_all g (ending_answers s g build)) build.name (passed names earlier each)
           it None fine agree marked is = absurd (cc)
-          it (Some own) fine agree marked is = told_after names whole earlier g known s s.limits.page build own fine agree marked
+          it (Some own) fine agree marked is = told_after names whole earlier g known s (page_limit s) build own fine agree marked
 
       pick : (name k : ℕ) (entry : Entry) → k < length (earlier ++ passed names earlier held ∷ []) → number_of name names ≡ Some k
           → entry_at whole k ≡ Some entry → (b : Bool) → nat_lt k (length earlier) ≡ b
@@ -184,7 +184,7 @@ module _ (s : Session) (names : List ℕ) (whole : Entries) (sound : AreSound na
           last name k entry same at is
 
   pub endings_so : (earlier : Entries) (g : History) (list : List Build) (entries : Entries) → Distinct list → ArePlaced names (length earlier) list
-      → Beside (Agrees s.limits.page g) list entries
+      → Beside (Agrees (page_limit s) g) list entries
       → Beside (AgreesToEnd s g) list entries → IsBehind whole (length earlier) entries → AreKnown names whole earlier g
       → map ending_answer (endings names earlier entries) ≡ endings_of s g list
   endings_so earlier g [] [] distinct placed beside marked behind known = refl
@@ -202,7 +202,8 @@ module _ (s : Session) (names : List ℕ) (whole : Entries) (sound : AreSound na
       ∙ one_same earlier g build held known fine beside.0 marked.0 in
       let rest : map ending_answer (endings names front later) ≡ endings_of s next list =
       endings_so front next list later distinct.1 (subst (λ (n : ℕ). ArePlaced names n list) long placed.1)
-      (all_kept (Agrees s.limits.page g) (Agrees s.limits.page next) list later (λ other each there. agrees_as s g next other each (same other there)) beside.1)
+      (all_kept (Agrees (page_limit s) g) (Agrees (page_limit s) next) list later (λ other each there. agrees_as s g next other each (same other there))
+      beside.1)
       (all_kept (AgreesToEnd s g) (AgreesToEnd s next) list later (λ other each there. marked_as s g next other each (same other there)) marked.1)
       (subst (λ (n : ℕ). IsBehind whole n later) long (behind_next whole (length earlier) held later behind))
       (known_next earlier g build held known placed.0 (behind_here whole (length earlier) held later behind) fine beside.0 marked.0) in

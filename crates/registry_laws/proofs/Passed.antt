@@ -23,7 +23,7 @@ use Rattle.blob_model.specs.Builds.{Build}
 use Rattle.blob_model.specs.History.{History, said_all}
 use Rattle.blob_model.specs.Live.{is_rooted}
 use Rattle.blob_model.specs.Order.{named, Distinct}
-use Rattle.blob_model.specs.Session.{Session}
+use Rattle.blob_model.specs.Session.{Session, page_limit}
 use Rattle.blob_model.specs.Settle.{ending_answers, endings_of}
 use Rattle.blob_model.specs.Standing.{ended}
 use Rattle.blob_model.proofs.Lists.{false_true}
@@ -149,19 +149,19 @@ module _ (s : Session) (names : List ℕ) (whole : Entries) (sound : AreSound na
 
   one_agrees : (earlier : Entries) (g final : History) (build : Build) (held now : Option Entry) → AreKnown names whole earlier g → AreAlike earlier
       → IfSome held (IsSound names whole (length earlier))
-      → Agrees s.limits.page g build held → AgreesToEnd s g build held → Ends names after held now
+      → Agrees (page_limit s) g build held → AgreesToEnd s g build held → Ends names after held now
       → ended final build.name ≡ ended (said_all g (ending_answers s g build)) build.name
-      → is_rooted s.limits.page final build.name ≡ is_rooted s.limits.page g build.name
-      → Agrees s.limits.page final build now
+      → is_rooted (page_limit s) final build.name ≡ is_rooted (page_limit s) g build.name
+      → Agrees (page_limit s) final build now
   one_agrees earlier g final build None now known are fine agree marked so end root =
-      subst (Agrees s.limits.page final build) (sym so) (record {
+      subst (Agrees (page_limit s) final build) (sym so) (record {
         ended = ap (λ (o : Option Status). is_none o) end ∙ over g (ending_answers s g build) build.name agree.ended;
         unrooted = root ∙ agree.unrooted;
       })
   one_agrees earlier g final build (Some entry) now known are fine agree marked so end root =
-      after_agrees s.limits.page g final build entry (unwrap_or (ending names after entry) entry.status) now (looked names after entry now so) agree
+      after_agrees (page_limit s) g final build entry (unwrap_or (ending names after entry) entry.status) now (looked names after entry now so) agree
       (ap (λ (o : Option Status). told (unwrap_or o entry.status)) (same_end earlier (Some entry) are fine)
-      ∙ told_after names whole earlier g known s s.limits.page build entry fine agree marked
+      ∙ told_after names whole earlier g known s (page_limit s) build entry fine agree marked
       ∙ sym end)
       root (still (ending names after entry) refl)
     where
@@ -170,10 +170,10 @@ module _ (s : Session) (names : List ℕ) (whole : Entries) (sound : AreSound na
       still (Some status) is pending = absurd (false_true (sym (ends_apart names after entry status fine.mark is) ∙ pending))
 
   pub pass_agrees : (earlier : Entries) (g : History) (list : List Build) (entries afters : Entries) → Distinct list → ArePlaced names (length earlier) list
-      → Beside (Agrees s.limits.page g) list entries
+      → Beside (Agrees (page_limit s) g) list entries
       → Beside (AgreesToEnd s g) list entries → IsBehind whole (length earlier) entries → AreKnown names whole earlier g → AreAlike earlier
       → IsBehind after (length earlier) afters
-      → length entries ≡ length afters → Beside (Agrees s.limits.page (said_all g (endings_of s g list))) list afters
+      → length entries ≡ length afters → Beside (Agrees (page_limit s) (said_all g (endings_of s g list))) list afters
   pass_agrees earlier g [] [] [] distinct placed beside marked behind known are now long = tt
   pass_agrees earlier g [] [] (each' ∷ afters) distinct placed beside marked behind known are now long = absurd (omega arith)
   pass_agrees earlier g [] (held ∷ later) afters distinct placed beside marked behind known are now long = absurd beside
@@ -191,17 +191,18 @@ module _ (s : Session) (names : List ℕ) (whole : Entries) (sound : AreSound na
       let looks : Ends names after held here =
       subst (λ (was : Option Entry). Ends names after was here) at
       (subst (Ends names after (entry_at whole (length earlier))) (behind_here after (length earlier) here afters now) (each (length earlier))) in
-      let head : Agrees s.limits.page final build here =
+      let head : Agrees (page_limit s) final build here =
       one_agrees earlier g final build held here known are fine beside.0 marked.0 looks (rest_kept s next list build.name distinct.0)
-      (rooted_said s.limits.page next (endings_of s next list) build.name ∙ rooted_said s.limits.page g (ending_answers s g build) build.name) in
-      let rest : Beside (Agrees s.limits.page final) list afters =
+      (rooted_said (page_limit s) next (endings_of s next list) build.name ∙ rooted_said (page_limit s) g (ending_answers s g build) build.name) in
+      let rest : Beside (Agrees (page_limit s) final) list afters =
       pass_agrees front next list later afters distinct.1 (subst (λ (n : ℕ). ArePlaced names n list) size placed.1)
-      (all_kept (Agrees s.limits.page g) (Agrees s.limits.page next) list later (λ other each there. agrees_as s g next other each (same other there)) beside.1)
+      (all_kept (Agrees (page_limit s) g) (Agrees (page_limit s) next) list later (λ other each there. agrees_as s g next other each (same other there))
+      beside.1)
       (all_kept (AgreesToEnd s g) (AgreesToEnd s next) list later (λ other each there. marked_as s g next other each (same other there)) marked.1)
       (subst (λ (n : ℕ). IsBehind whole n later) size (behind_next whole (length earlier) held later behind))
       (known_next s names whole sound earlier g build held known placed.0 at fine beside.0 marked.0)
       (alike_next earlier held are fine at)
       (subst (λ (n : ℕ). IsBehind after n afters) size (behind_next after (length earlier) here afters now))
       (omega arith) in
-      subst (λ (h : History). Beside (Agrees s.limits.page h) (build ∷ list) (here ∷ afters))
+      subst (λ (h : History). Beside (Agrees (page_limit s) h) (build ∷ list) (here ∷ afters))
       (sym (said_append g (ending_answers s g build) (endings_of s next list))) (head, rest)

@@ -13,7 +13,7 @@ use Rattle.blob_model.specs.Choice.{first_that}
 use Rattle.blob_model.specs.History.{History}
 use Rattle.blob_model.specs.Live.{is_rooted}
 use Rattle.blob_model.specs.Parts.{sources}
-use Rattle.blob_model.specs.Session.{Session}
+use Rattle.blob_model.specs.Session.{Session, page_limit}
 use Rattle.blob_model.specs.Settle.{is_deserted, is_unwritten}
 use Rattle.blob_model.specs.Standing.{ended, is_granted, is_unfinished}
 use Rattle.blob_model.specs.Transport.{has_all}
@@ -75,4 +75,4 @@ AgreesToEnd s h build (Some entry) = is_pending entry.status ≡ true → IsMark
 
 -- each unfinished entry is marked as its blob breaks
 abbrev pub AgreesInMarks : Session → History → Book → Type 0
-AgreesInMarks s h book = Beside (AgreesToEnd s h) (builds s.limits.page h) book.entries
+AgreesInMarks s h book = Beside (AgreesToEnd s h) (builds (page_limit s) h) book.entries

@@ -13,7 +13,7 @@ use Rattle.blob_model.specs.Builds.{Build, builds}
 use Rattle.blob_model.specs.History.{History, said_all}
 use Rattle.blob_model.specs.Live.{live}
 use Rattle.blob_model.specs.Order.{Distinct}
-use Rattle.blob_model.specs.Session.{Session}
+use Rattle.blob_model.specs.Session.{Session, page_limit}
 use Rattle.blob_model.specs.Settle.{drops, endings}
 use Rattle.blob_registry.specs.Passes as passes
 use Rattle.blob_registry.specs.Sweeps.{dropped, swept}
@@ -22,13 +22,13 @@ use Rattle.registry_laws.specs.Agree.{AgreesInMarks, AgreesWith}
 
 -- a history tells how the entries of a registry stand: its names differ, the entries are sound, and they agree
 pub record Describes (s : Session) (h : History) (book : Book) : Type 0 where
-  pub distinct : Distinct (builds s.limits.page h)
+  pub distinct : Distinct (builds (page_limit s) h)
   pub sound : AreSound book.names book.entries
-  pub agree : AgreesWith s.limits.page h book
+  pub agree : AgreesWith (page_limit s) h book
 
 -- what the sweep leaves are the live blobs, and the names that it drops are those of the drops owed, in their order
 pub record SweepsAs (s : Session) (h : History) (book : Book) : Type 0 where
-  pub left : standing book.names (swept book.names 0 book.entries) ≡ map (λ (build : Build). build.name) (live s.limits.page h)
+  pub left : standing book.names (swept book.names 0 book.entries) ≡ map (λ (build : Build). build.name) (live (page_limit s) h)
   pub dropped : map (λ (name : ℕ). answers.Dropped name) (dropped book.names 0 book.entries) ≡ drops s h
 
 abbrev pub LiveAgree : Type 0
@@ -45,7 +45,7 @@ EndingsAgree = (s : Session) (h : History) (book : Book) → Describes s h book 
 
 -- what the sweep leaves agrees with the history behind the drops, and in its marks where they agreed
 pub record AgreesSwept (s : Session) (h : History) (book : Book) : Type 0 where
-  pub agree : AgreesWith s.limits.page (said_all h (drops s h)) (book_of book.names (swept book.names 0 book.entries))
+  pub agree : AgreesWith (page_limit s) (said_all h (drops s h)) (book_of book.names (swept book.names 0 book.entries))
   pub marks : AgreesInMarks s h book → AgreesInMarks s (said_all h (drops s h)) (book_of book.names (swept book.names 0 book.entries))
 
 abbrev pub SweepAgrees : Type 0
@@ -55,7 +55,7 @@ SweepAgrees = (s : Session) (h : History) (book : Book) → Describes s h book �
 abbrev pub PassAgrees : Type 0
 PassAgrees = (s : Session) (h : History) (before after : Book) (list : List EndedBlob) → Describes s h before → AgreesInMarks s h before
     → passes.Finishes before after list
-    → AgreesWith s.limits.page (said_all h (endings s h)) after
+    → AgreesWith (page_limit s) (said_all h (endings s h)) after
 
 -- what the sweep leaves is the least set: each set that has the rooted entries, and what its unfinished ones take bytes from, has all of it
 abbrev pub SweepIsLeast : Type 0

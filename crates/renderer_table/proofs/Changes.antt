@@ -9,20 +9,25 @@ use Rattle.renderer_table.specs.declared.living.Living.{Living}
 use Rattle.renderer_table.specs.Table.{counted_in}
 
 -- the one that is written goes as the one that was there
-removed_written : {V : Type 0} (test : ℕ → Bool) (entries : List (ℕ × V)) (value : V) → remove_entry test (set_value test entries value) ≡ remove_entry test entries
+removed_written : {V : Type 0} (test : ℕ → Bool) (entries : List (ℕ × V)) (value : V) → remove_entry test (set_value test entries value)
+    ≡ remove_entry test entries
 removed_written test [] value = refl
-removed_written test (entry ∷ entries) value = (elim (test entry.0) as (λ t. test entry.0 ≡ t → remove_entry test (cond t ((entry.0, value) ∷ entries) (entry ∷ set_value test entries value)) ≡ cond t entries (entry ∷ remove_entry test entries)) [
-  | true ↦ λ is. rw is refl
-  | false ↦ λ is. rw is (ap (λ more. entry ∷ more) (removed_written test entries value))
-]) refl
+removed_written test (entry ∷ entries) value =
+    (elim (test entry.0) as (λ t. test entry.0 ≡ t → remove_entry test (cond t ((entry.0, value) ∷ entries) (entry ∷ set_value test entries value))
+    ≡ cond t entries (entry ∷ remove_entry test entries)) [
+      | true ↦ λ is. rw is refl
+      | false ↦ λ is. rw is (ap (λ more. entry ∷ more) (removed_written test entries value))
+    ]) refl
 
 by : (id : ℕ) (counts : List (ℕ × ℕ)) (living : List (ℕ × Living)) (found : Option Living)
-    → remove_entry (is_at (nat_cmp id)) (option_map_or (λ one. set_value (is_at (nat_cmp id)) living (record one { counts = counts })) found living) ≡ remove_entry (is_at (nat_cmp id)) living
+    → remove_entry (is_at (nat_cmp id)) (option_map_or (λ one. set_value (is_at (nat_cmp id)) living (record one { counts = counts })) found living)
+    ≡ remove_entry (is_at (nat_cmp id)) living
 by id counts living None = refl
 by id counts living (Some one) = removed_written (is_at (nat_cmp id)) living (record one { counts = counts })
 
 -- whatever counts a renderer has, without it the others are left
-pub removed_counted : (id : ℕ) (counts : List (ℕ × ℕ)) (living : List (ℕ × Living)) → remove_entry (is_at (nat_cmp id)) (counted_in id counts living) ≡ remove_entry (is_at (nat_cmp id)) living
+pub removed_counted : (id : ℕ) (counts : List (ℕ × ℕ)) (living : List (ℕ × Living)) → remove_entry (is_at (nat_cmp id)) (counted_in id counts living)
+    ≡ remove_entry (is_at (nat_cmp id)) living
 removed_counted id counts living = by id counts living (lookup (is_at (nat_cmp id)) living)
 
 -- what holds after a fault, and what follows from it

@@ -19,25 +19,30 @@ use Rattle.renderer_table.proofs.Lookups.{any_inserted, length_inserted, lookup_
 
 module _ {X : Type 0} where
   -- an entry that is written is found at its key, and every other as before
-  pub lookup_written : (q k : ℕ) (v : X) (es : List (ℕ × X)) → IsSome (lookup (is_at (nat_cmp k)) es) → lookup (is_at (nat_cmp q)) (set_value (is_at (nat_cmp k)) es v) ≡ cond (k == q) (Some v) (lookup (is_at (nat_cmp q)) es)
+  pub lookup_written : (q k : ℕ) (v : X) (es : List (ℕ × X)) → IsSome (lookup (is_at (nat_cmp k)) es) → lookup (is_at (nat_cmp q))
+      (set_value (is_at (nat_cmp k)) es v) ≡ cond (k == q) (Some v) (lookup (is_at (nat_cmp q)) es)
   lookup_written q k v es some =
-      lookup-set_value number_laws (is_at (nat_cmp k)) (λ x y here. number_laws.congr k x y here) q v es some ∙ ap (λ b. cond b (Some v) (lookup (is_at (nat_cmp q)) es)) (unsigned_tied k q)
+      lookup-set_value number_laws (is_at (nat_cmp k)) (λ x y here. number_laws.congr k x y here) q v es some ∙ ap
+      (λ b. cond b (Some v) (lookup (is_at (nat_cmp q)) es)) (unsigned_tied k q)
 
   -- an entry that goes is found no more, and every other as before
-  pub lookup_removed : (q k : ℕ) (es : List (ℕ × X)) → IsStrictlySortedBy nat_cmp (keys_of es) → lookup (is_at (nat_cmp q)) (remove_entry (is_at (nat_cmp k)) es) ≡ cond (k == q) None (lookup (is_at (nat_cmp q)) es)
+  pub lookup_removed : (q k : ℕ) (es : List (ℕ × X)) → IsStrictlySortedBy nat_cmp (keys_of es) → lookup (is_at (nat_cmp q))
+      (remove_entry (is_at (nat_cmp k)) es) ≡ cond (k == q) None (lookup (is_at (nat_cmp q)) es)
   lookup_removed q k es sorted =
       lookup-remove_entry number_laws (is_at (nat_cmp k)) (λ x y here. number_laws.congr k x y here) q es (IsDistinct-from_sorted nat_cmp (keys_of es) sorted)
       ∙ ap (λ b. cond b None (lookup (is_at (nat_cmp q)) es)) (unsigned_tied k q)
 
   -- and so where it was the first
-  pub lookup_dropped : (q k : ℕ) (v : X) (es : List (ℕ × X)) → IsStrictlySortedBy nat_cmp (keys_of es) → slice_get es 0 ≡ Some (k, v) → lookup (is_at (nat_cmp q)) (drop 1 es) ≡ cond (k == q) None (lookup (is_at (nat_cmp q)) es)
+  pub lookup_dropped : (q k : ℕ) (v : X) (es : List (ℕ × X)) → IsStrictlySortedBy nat_cmp (keys_of es) → slice_get es 0 ≡ Some (k, v)
+      → lookup (is_at (nat_cmp q)) (drop 1 es) ≡ cond (k == q) None (lookup (is_at (nat_cmp q)) es)
   lookup_dropped q k v [] sorted first = cc
   lookup_dropped q k v (e ∷ es) sorted first =
       let key : e.0 ≡ k = cc in
       by (k == q) (is_at (nat_cmp q) e.0) refl (unsigned_tied q e.0 ∙ ap (λ n. q == n) key ∙ nat_eq_equiv.symm q k)
     where
       by : (a b : Bool) → is_at (nat_cmp q) e.0 ≡ b → b ≡ a → lookup (is_at (nat_cmp q)) es ≡ cond a None (cond b (Some e.1) (lookup (is_at (nat_cmp q)) es))
-      by true true is same = lookup-none (is_at (nat_cmp q)) es (none_past_head number_laws q e es (IsDistinct-from_sorted nat_cmp (keys_of (e ∷ es)) sorted) is)
+      by true true is same = lookup-none (is_at (nat_cmp q)) es (none_past_head number_laws q e es (IsDistinct-from_sorted nat_cmp (keys_of (e ∷ es)) sorted)
+          is)
       by true false is same = cc
       by false true is same = cc
       by false false is same = refl
@@ -47,31 +52,38 @@ recounted : (change : ℕ → ℕ) (blob : ℕ) (old new : List (ℕ × ℕ)) (f
     → ((name : ℕ) → lookup (is_at (nat_cmp name)) new ≡ cond (blob == name) found (lookup (is_at (nat_cmp name)) old)) → Recounts change blob old new
 recounted change blob old new found is reads name = ap (λ one. unwrap_or one 0) (reads name) ∙ by (blob == name) refl
   where
-    by : (b : Bool) → (blob == name) ≡ b → unwrap_or (cond b found (lookup (is_at (nat_cmp name)) old)) 0 ≡ cond b (change (count_on name old)) (count_on name old)
+    by : (b : Bool) → (blob == name) ≡ b → unwrap_or (cond b found (lookup (is_at (nat_cmp name)) old)) 0 ≡ cond b (change (count_on name old))
+        (count_on name old)
     by true here = is ∙ ap (λ n. change (count_on n old)) (eqb-true blob name here)
     by false here = refl
 
 pub more : (blob : ℕ) (counts : List (ℕ × ℕ)) → Recounts (λ count. count + 1) blob counts (one_more blob counts)
-more blob counts = recounted (λ count. count + 1) blob counts (one_more blob counts) (Some (count_on blob counts + 1)) refl (λ name. lookup_inserted name blob (count_on blob counts + 1) counts)
+more blob counts = recounted (λ count. count + 1) blob counts (one_more blob counts) (Some (count_on blob counts + 1)) refl
+    (λ name. lookup_inserted name blob (count_on blob counts + 1) counts)
 
 is_there : (found : Option ℕ) → 0 < unwrap_or found 0 → IsSome found
 is_there None some = absurd (omega arith)
 is_there (Some count) some = refl
 
-pub fewer : (blob : ℕ) (counts : List (ℕ × ℕ)) → IsStrictlySortedBy nat_cmp (keys_of counts) → 0 < count_on blob counts → Recounts (λ count. count - 1) blob counts (one_fewer blob counts)
+pub fewer : (blob : ℕ) (counts : List (ℕ × ℕ)) → IsStrictlySortedBy nat_cmp (keys_of counts) → 0 < count_on blob counts → Recounts (λ count. count - 1) blob
+    counts (one_fewer blob counts)
 fewer blob counts sorted some = by (count_on blob counts == 1) refl
   where
-    by : (b : Bool) → (count_on blob counts == 1) ≡ b → Recounts (λ count. count - 1) blob counts (cond b (remove_entry (is_at (nat_cmp blob)) counts) (set_value (is_at (nat_cmp blob)) counts (count_on blob counts - 1)))
+    by : (b : Bool) → (count_on blob counts == 1) ≡ b → Recounts (λ count. count - 1) blob counts
+        (cond b (remove_entry (is_at (nat_cmp blob)) counts) (set_value (is_at (nat_cmp blob)) counts (count_on blob counts - 1)))
     by true last =
         let one : count_on blob counts ≡ 1 = eqb-true (count_on blob counts) 1 last in
-        recounted (λ count. count - 1) blob counts (remove_entry (is_at (nat_cmp blob)) counts) None (omega (arith, one)) (λ name. lookup_removed name blob counts sorted)
+        recounted (λ count. count - 1) blob counts (remove_entry (is_at (nat_cmp blob)) counts) None (omega (arith, one))
+        (λ name. lookup_removed name blob counts sorted)
     by false last =
         recounted (λ count. count - 1) blob counts (set_value (is_at (nat_cmp blob)) counts (count_on blob counts - 1)) (Some (count_on blob counts - 1)) refl
         (λ name. lookup_written name blob (count_on blob counts - 1) counts (is_there (lookup (is_at (nat_cmp blob)) counts) some))
 
 -- the first of the counts goes
-pub without_first : (blob count : ℕ) (counts : List (ℕ × ℕ)) → IsStrictlySortedBy nat_cmp (keys_of counts) → slice_get counts 0 ≡ Some (blob, count) → Recounts (λ _. 0) blob counts (drop 1 counts)
-without_first blob count counts sorted first = recounted (λ _. 0) blob counts (drop 1 counts) None refl (λ name. lookup_dropped name blob count counts sorted first)
+pub without_first : (blob count : ℕ) (counts : List (ℕ × ℕ)) → IsStrictlySortedBy nat_cmp (keys_of counts) → slice_get counts 0 ≡ Some (blob, count)
+    → Recounts (λ _. 0) blob counts (drop 1 counts)
+without_first blob count counts sorted first = recounted (λ _. 0) blob counts (drop 1 counts) None refl
+    (λ name. lookup_dropped name blob count counts sorted first)
 
 pub first_count : (blob count : ℕ) (counts : List (ℕ × ℕ)) → slice_get counts 0 ≡ Some (blob, count) → count_on blob counts ≡ count
 first_count blob count [] first = cc
@@ -86,19 +98,23 @@ no_count name [] none = refl
 no_count name (entry ∷ counts) none = cc
 
 -- a renderer's counts are written
-pub counts_written : (change : ℕ → ℕ) (id blob : ℕ) (counts : List (ℕ × ℕ)) (old new : Table) → IsSome (living_of id old) → Recounts change blob (counts_of id old) counts → new ≡ with_counts id counts old → ChangesCount change id blob old new
+pub counts_written : (change : ℕ → ℕ) (id blob : ℕ) (counts : List (ℕ × ℕ)) (old new : Table) → IsSome (living_of id old)
+    → Recounts change blob (counts_of id old) counts → new ≡ with_counts id counts old → ChangesCount change id blob old new
 counts_written change id blob counts old new alive recounts is = by (living_of id old) refl alive
   where
-    same : (one : Living) → living_of id old ≡ Some one → (other : ℕ) → living_of other new ≡ cond (id == other) (Some (record one { counts = counts })) (living_of other old)
+    same : (one : Living) → living_of id old ≡ Some one → (other : ℕ) → living_of other new ≡ cond (id == other) (Some (record one { counts = counts }))
+        (living_of other old)
     same one found other =
         let written : new.living ≡ set_value (is_at (nat_cmp id)) old.living (record one { counts = counts }) =
-        ap (λ (table : Table). table.living) is ∙ ap (λ living. option_map_or (λ (one : Living). set_value (is_at (nat_cmp id)) old.living (record one { counts = counts })) living old.living) found in
+        ap (λ (table : Table). table.living) is ∙ ap (λ living. option_map_or
+        (λ (one : Living). set_value (is_at (nat_cmp id)) old.living (record one { counts = counts })) living old.living) found in
         ap (lookup (is_at (nat_cmp other))) written ∙ lookup_written other id (record one { counts = counts }) old.living (ap is_some found)
 
     counted : (one : Living) → living_of id old ≡ Some one → (other name : ℕ) (here : Bool) → (id == other) ≡ here
         → count_on name (option_map_or (λ (one : Living). one.counts) (cond here (Some (record one { counts = counts })) (living_of other old)) [])
         ≡ cond (here && (blob == name)) (change (count_of other name old)) (count_of other name old)
-    counted one found other name true here = recounts name ∙ ap (λ n. cond (blob == name) (change (count_of n name old)) (count_of n name old)) (eqb-true id other here)
+    counted one found other name true here = recounts name ∙ ap (λ n. cond (blob == name) (change (count_of n name old)) (count_of n name old))
+        (eqb-true id other here)
     counted one found other name false here = refl
 
     origin : (one : Living) → living_of id old ≡ Some one → (other : ℕ) (here : Bool) → (id == other) ≡ here
@@ -110,7 +126,8 @@ counts_written change id blob counts old new alive recounts is = by (living_of i
     by None found alive = cc
     by (Some one) found alive =
         record {
-          counts = λ other name. ap (λ living. count_on name (option_map_or (λ (one : Living). one.counts) living [])) (same one found other) ∙ counted one found other name (id == other) refl;
+          counts = λ other name. ap (λ living. count_on name (option_map_or (λ (one : Living). one.counts) living [])) (same one found other) ∙ counted one
+              found other name (id == other) refl;
           origins = λ other. ap (option_map (λ (one : Living). one.origin)) (same one found other) ∙ origin one found other (id == other) refl;
           spawned = ap (λ (table : Table). table.spawned) is;
         }
@@ -119,7 +136,8 @@ counts_written change id blob counts old new alive recounts is = by (living_of i
 pub comes : (id : ℕ) (origin : List ℕ) (old new : Table) → was_spawned id old ≡ false → new ≡ spawned_in id origin old → Spawns id origin old new
 comes id origin old new unused is =
     record {
-      counts = λ other name. ap (λ living. count_on name (option_map_or (λ (one : Living). one.counts) living [])) (same other) ∙ counted other name (id == other);
+      counts = λ other name. ap (λ living. count_on name (option_map_or (λ (one : Living). one.counts) living [])) (same other) ∙ counted other name
+          (id == other);
       origins = λ other. ap (option_map (λ (one : Living). one.origin)) (same other) ∙ found other (id == other);
       known = λ other. ap (was_spawned other) is ∙ any_inserted other id old.spawned;
       many = ap (λ (table : Table). length table.spawned) is ∙ length_inserted id old.spawned unused;
@@ -132,11 +150,13 @@ comes id origin old new unused is =
     same other = ap (living_of other) is ∙ lookup_inserted other id (record { origin = origin; counts = [] }) old.living
 
     counted : (other name : ℕ) (here : Bool)
-        → count_on name (option_map_or (λ (one : Living). one.counts) (cond here (Some (record { origin = origin; counts = [] })) (living_of other old)) []) ≡ cond here 0 (count_of other name old)
+        → count_on name (option_map_or (λ (one : Living). one.counts) (cond here (Some (record { origin = origin; counts = [] })) (living_of other old)) [])
+        ≡ cond here 0 (count_of other name old)
     counted other name true = refl
     counted other name false = refl
 
-    found : (other : ℕ) (here : Bool) → option_map (λ (one : Living). one.origin) (cond here (Some (record { origin = origin; counts = [] })) (living_of other old)) ≡ cond here (Some origin) (origin_at other old)
+    found : (other : ℕ) (here : Bool) → option_map (λ (one : Living). one.origin)
+        (cond here (Some (record { origin = origin; counts = [] })) (living_of other old)) ≡ cond here (Some origin) (origin_at other old)
     found other true = refl
     found other false = refl
 
@@ -146,7 +166,8 @@ pub goes : (id : ℕ) (old new : Table) → IsStrictlySortedBy nat_cmp (keys_of 
 goes id old new sorted none is =
     record {
       empty = λ name. no_count name (counts_of id old) none;
-      counts = λ other name. ap (λ living. count_on name (option_map_or (λ (one : Living). one.counts) living [])) (same other) ∙ counted other name (id == other) refl;
+      counts = λ other name. ap (λ living. count_on name (option_map_or (λ (one : Living). one.counts) living [])) (same other) ∙ counted other name
+          (id == other) refl;
       origins = λ other. ap (option_map (λ (one : Living). one.origin)) (same other) ∙ found other (id == other);
       spawned = ap (λ (table : Table). table.spawned) is;
     }
@@ -154,7 +175,8 @@ goes id old new sorted none is =
     same : (other : ℕ) → living_of other new ≡ cond (id == other) None (living_of other old)
     same other = ap (living_of other) is ∙ lookup_removed other id old.living sorted
 
-    counted : (other name : ℕ) (here : Bool) → (id == other) ≡ here → count_on name (option_map_or (λ (one : Living). one.counts) (cond here None (living_of other old)) []) ≡ count_of other name old
+    counted : (other name : ℕ) (here : Bool) → (id == other) ≡ here
+        → count_on name (option_map_or (λ (one : Living). one.counts) (cond here None (living_of other old)) []) ≡ count_of other name old
     counted other name true here = sym (no_count name (counts_of id old) none) ∙ ap (λ n. count_of n name old) (eqb-true id other here)
     counted other name false here = refl
 

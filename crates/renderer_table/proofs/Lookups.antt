@@ -41,12 +41,15 @@ module _ {X : Type 0} where
 
 module _ {X : Type 0} where
   -- an entry that comes is found at its key, and every other as before
-  pub lookup_inserted : (q k : ℕ) (v : X) (es : List (ℕ × X)) → lookup (is_at (nat_cmp q)) (insert_entry nat_cmp es k v) ≡ cond (k == q) (Some v) (lookup (is_at (nat_cmp q)) es)
+  pub lookup_inserted : (q k : ℕ) (v : X) (es : List (ℕ × X)) → lookup (is_at (nat_cmp q)) (insert_entry nat_cmp es k v) ≡ cond (k == q) (Some v)
+      (lookup (is_at (nat_cmp q)) es)
   lookup_inserted q k v [] = ap (λ b. cond b (Some v) None) (flipped q k)
   lookup_inserted q k v (e ∷ es) = go (nat_cmp k e.0) refl (lookup_inserted q k v es)
     where
-      go : (r : Ordering) → nat_cmp k e.0 ≡ r → lookup (is_at (nat_cmp q)) (insert_entry nat_cmp es k v) ≡ cond (k == q) (Some v) (lookup (is_at (nat_cmp q)) es)
-          → lookup (is_at (nat_cmp q)) (match_ordering r ((k, v) ∷ e ∷ es) ((e.0, v) ∷ es) (e ∷ insert_entry nat_cmp es k v)) ≡ cond (k == q) (Some v) (lookup (is_at (nat_cmp q)) (e ∷ es))
+      go : (r : Ordering) → nat_cmp k e.0 ≡ r → lookup (is_at (nat_cmp q)) (insert_entry nat_cmp es k v) ≡ cond (k == q) (Some v)
+          (lookup (is_at (nat_cmp q)) es)
+          → lookup (is_at (nat_cmp q)) (match_ordering r ((k, v) ∷ e ∷ es) ((e.0, v) ∷ es) (e ∷ insert_entry nat_cmp es k v)) ≡ cond (k == q) (Some v)
+          (lookup (is_at (nat_cmp q)) (e ∷ es))
       go Less is rest = ap (λ b. cond b (Some v) (lookup (is_at (nat_cmp q)) (e ∷ es))) (flipped q k)
       go Equal is rest = twice {X = Option X} (k == q) (is_at (nat_cmp q) e.0) (Some v) (Some e.1) (lookup (is_at (nat_cmp q)) es) (stands_for q k e.0 is)
       go Greater is rest =
@@ -70,7 +73,8 @@ any_inserted q k [] = ap (λ b. b || false) (flipped q k)
 any_inserted q k (e ∷ ks) = go (nat_cmp k e) refl (any_inserted q k ks)
   where
     go : (r : Ordering) → nat_cmp k e ≡ r → list_any (is_at (nat_cmp q)) (insert_key nat_cmp ks k) ≡ ((k == q) || list_any (is_at (nat_cmp q)) ks)
-        → list_any (is_at (nat_cmp q)) (match_ordering r (k ∷ e ∷ ks) (e ∷ ks) (e ∷ insert_key nat_cmp ks k)) ≡ ((k == q) || list_any (is_at (nat_cmp q)) (e ∷ ks))
+        → list_any (is_at (nat_cmp q)) (match_ordering r (k ∷ e ∷ ks) (e ∷ ks) (e ∷ insert_key nat_cmp ks k))
+        ≡ ((k == q) || list_any (is_at (nat_cmp q)) (e ∷ ks))
     go Less is rest = ap (λ b. b || list_any (is_at (nat_cmp q)) (e ∷ ks)) (flipped q k)
     go Equal is rest = either_twice (k == q) (is_at (nat_cmp q) e) (list_any (is_at (nat_cmp q)) ks) (stands_for q k e is)
     go Greater is rest = ap (λ b. is_at (nat_cmp q) e || b) rest ∙ either_turned (is_at (nat_cmp q) e) (k == q) (list_any (is_at (nat_cmp q)) ks)
@@ -80,7 +84,8 @@ pub length_inserted : (k : ℕ) (ks : List ℕ) → list_any (is_at (nat_cmp k))
 length_inserted k [] absent = refl
 length_inserted k (e ∷ ks) absent = go (nat_cmp k e) absent (length_inserted k ks)
   where
-    go : (r : Ordering) → (is_eq r || list_any (is_at (nat_cmp k)) ks) ≡ false → (list_any (is_at (nat_cmp k)) ks ≡ false → length (insert_key nat_cmp ks k) ≡ length ks + 1)
+    go : (r : Ordering) → (is_eq r || list_any (is_at (nat_cmp k)) ks) ≡ false
+        → (list_any (is_at (nat_cmp k)) ks ≡ false → length (insert_key nat_cmp ks k) ≡ length ks + 1)
         → length (match_ordering r (k ∷ e ∷ ks) (e ∷ ks) (e ∷ insert_key nat_cmp ks k)) ≡ length (e ∷ ks) + 1
     go Less absent rest = omega arith
     go Equal absent rest = cc

@@ -13,13 +13,15 @@ same : (number : ℕ) → is_eq (nat_cmp number number) ≡ true
 same number = grind (arith, nat_tests)
 
 -- a number that is put among others and taken out again
-pub removed_inserted : (number : ℕ) (numbers : List ℕ) → list_any (is_at (nat_cmp number)) numbers ≡ false → remove_key (is_at (nat_cmp number)) (insert_key nat_cmp numbers number) ≡ numbers
+pub removed_inserted : (number : ℕ) (numbers : List ℕ) → list_any (is_at (nat_cmp number)) numbers ≡ false → remove_key (is_at (nat_cmp number))
+    (insert_key nat_cmp numbers number) ≡ numbers
 removed_inserted number [] absent = rw (same number) refl
 removed_inserted number (other ∷ numbers) absent = by (nat_cmp number other) refl absent (removed_inserted number numbers)
   where
     by : (r : Ordering) → nat_cmp number other ≡ r → (is_eq r || list_any (is_at (nat_cmp number)) numbers) ≡ false
         → (list_any (is_at (nat_cmp number)) numbers ≡ false → remove_key (is_at (nat_cmp number)) (insert_key nat_cmp numbers number) ≡ numbers)
-        → remove_key (is_at (nat_cmp number)) (match_ordering r (number ∷ other ∷ numbers) (other ∷ numbers) (other ∷ insert_key nat_cmp numbers number)) ≡ other ∷ numbers
+        → remove_key (is_at (nat_cmp number)) (match_ordering r (number ∷ other ∷ numbers) (other ∷ numbers) (other ∷ insert_key nat_cmp numbers number))
+        ≡ other ∷ numbers
     by Less is none rest = rw (same number) refl
     by Equal is none rest = cc
     by Greater is none rest = rw is (ap (λ more. other ∷ more) (rest none))

@@ -1,4 +1,5 @@
--- What a call makes of the renderers, read number by number: who lives with which origin, how many handles each has on each blob, and which numbers were spawned. Own.
+-- What a call makes of the renderers, read number by number: who lives with which origin, how many handles each has on each blob, and which numbers were
+-- spawned. Own.
 use Rattle.std.specs.Prelude.{ℕ, ◌≡◌, ◌+◌, ◌==◌, ◌&&◌, ◌||◌, List, if◌then◌else◌, length, Option, Some, None}
 use Rattle.std.specs.Option.{option_map}
 use Rattle.renderer_table.specs.Counts.{count_on}
@@ -14,7 +15,8 @@ Recounts change blob old new = (name : ℕ) → count_on name new ≡ (if blob =
 
 -- the count of this renderer on this blob changes; all others stay, and who lives and who was spawned
 pub record ChangesCount (change : ℕ → ℕ) (id blob : ℕ) (old new : Table) : Type 0 where
-  pub counts : (other name : ℕ) → count_of other name new ≡ (if (id == other) && (blob == name) then change (count_of other name old) else count_of other name old)
+  pub counts : (other name : ℕ) → count_of other name new ≡ (if (id == other) && (blob == name) then change (count_of other name old) else count_of other name
+      old)
   pub origins : (other : ℕ) → origin_at other new ≡ origin_at other old
   pub spawned : new.spawned ≡ old.spawned
 

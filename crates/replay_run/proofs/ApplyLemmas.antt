@@ -30,10 +30,12 @@ stands_done l s h name stands = record {
   held = stands.held;
 }
 
-pub applied : (l : Limits) (h : History) (event : Event) (s : Store) (answer : Answer) (done : Option ℕ) (counted : Tally) → unfinished h ≡ [] → has_ended h ≡ false → own l h event ≡ Some answer
+pub applied : (l : Limits) (h : History) (event : Event) (s : Store) (answer : Answer) (done : Option ℕ) (counted : Tally) → unfinished h ≡ [] → has_ended h
+    ≡ false → own l h event ≡ Some answer
     → Stands l s (heard h event answer) → unfinished_after event answer [] ≡ option_to_list done → ((h' : History) → Stands l s h' → counted ≡ tally l h')
     → IsLegalGroup l h (record { event = event; answers = answer ∷ map answers.Done (option_to_list done); tally = counted })
-    × Stands l s (after h event (answer ∷ map answers.Done (option_to_list done))) × (unfinished (after h event (answer ∷ map answers.Done (option_to_list done))) ≡ [])
+    × Stands l s (after h event (answer ∷ map answers.Done (option_to_list done)))
+    × (unfinished (after h event (answer ∷ map answers.Done (option_to_list done))) ≡ [])
 applied l h event s answer None counted owed still first stands finishes counts =
     let none : unfinished (heard h event answer) ≡ [] = ap (unfinished_after event answer) owed ∙ finishes in (
       record {

@@ -50,7 +50,8 @@ value-range h name count place =
 
 -- ---- the first answer of a step
 
-found_inside : (h : History) (number : ReaderId) (found : OpenReader) (some : List OpenReader) → AllByRecursion (IsInside h) some → find (has_number number) some ≡ Some found → IsInside h found
+found_inside : (h : History) (number : ReaderId) (found : OpenReader) (some : List OpenReader) → AllByRecursion (IsInside h) some → find (has_number number)
+    some ≡ Some found → IsInside h found
 found_inside h number found [] inside is = cc
 found_inside h number found (reader ∷ some) inside is =
     ⊎_elim
@@ -77,7 +78,8 @@ module _ (l : Limits) (h : History) (number : ReaderId) where
     pub step-given : (left found == 0) ≡ false → own_step l h number ≡ Some (answers.Given number (map (value h) (chunk l h found)))
     step-given some = step-found ∙ rw some refl
 
-module _ (l : Limits) (s : Store) (h : History) (number : ReaderId) (stands : Stands l s h) (found : OpenReader) (is : find (has_number number) (readers h) ≡ Some found) (alive : is_live h found.blob ≡ true) where
+module _ (l : Limits) (s : Store) (h : History) (number : ReaderId) (stands : Stands l s h) (found : OpenReader)
+    (is : find (has_number number) (readers h) ≡ Some found) (alive : is_live h found.blob ≡ true) where
   -- the store's bytes are those of the chunk
   pub chunk-bytes : map (value h) (chunk l h found) ≡ take (min (left found) s.limits.chunk) (drop found.place (bytes_in (blob_at s.shelf.blobs found.blob)))
   chunk-bytes =

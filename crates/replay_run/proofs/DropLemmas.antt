@@ -27,7 +27,8 @@ module _ (l : Limits) (s : Store) (h : History) (renderer : RendererId) (name : 
 
   held_dropped : (other : ℕ) → is_built dropped other ≡ false → holder dropped other ≡ None
   held_dropped other unbuilt =
-      ⊎_elim (λ (same : (name == other) ≡ true). rw same refl) (λ (apart : (name == other) ≡ false). rw apart (stands.held other unbuilt)) (cases_Bool (name == other))
+      ⊎_elim (λ (same : (name == other) ≡ true). rw same refl) (λ (apart : (name == other) ≡ false). rw apart (stands.held other unbuilt))
+      (cases_Bool (name == other))
 
   -- somebody reads the blob: it stays, without a holder
   module _ (read : is_read (readers h) name ≡ true) where
@@ -37,13 +38,15 @@ module _ (l : Limits) (s : Store) (h : History) (renderer : RendererId) (name : 
         (
         λ (same : (name == build.name) ≡ true).
         let reads : is_read (readers h) build.name ≡ true = ap (is_read (readers h)) (sym (eqb-true name build.name same)) ∙ read in
-        or_right (is_some (holder dropped build.name)) (is_read (readers h) build.name) reads ∙ sym (or_right (is_some (holder h build.name)) (is_read (readers h) build.name) reads)
+        or_right (is_some (holder dropped build.name)) (is_read (readers h) build.name) reads ∙ sym
+        (or_right (is_some (holder h build.name)) (is_read (readers h) build.name) reads)
         )
         (λ (apart : (name == build.name) ≡ false). rw apart refl)
         (cases_Bool (name == build.name))
 
     row_read : (build : Build) → blob_of l dropped build ≡ freed name (blob_of l h build)
-    row_read build = ⊎_elim (λ (same : (name == build.name) ≡ true). rw same refl) (λ (apart : (name == build.name) ≡ false). rw apart refl) (cases_Bool (name == build.name))
+    row_read build = ⊎_elim (λ (same : (name == build.name) ≡ true). rw same refl) (λ (apart : (name == build.name) ≡ false). rw apart refl)
+        (cases_Bool (name == build.name))
 
     pub kept-freed : (shelf : Shelved) → shelf ≡ record s.shelf { blobs = map (freed name) s.shelf.blobs } → Stands l (record s { shelf = shelf }) dropped
     kept-freed shelf rows = record {
@@ -53,7 +56,8 @@ module _ (l : Limits) (s : Store) (h : History) (renderer : RendererId) (name : 
       same_names = stands.same_names;
       same_blobs = ap (λ (all : Shelved). all.blobs) rows
           ∙ ap (map (freed name)) stands.same_blobs
-          ∙ sym (rows-mapped (blob_of l h) (blob_of l dropped) (λ (build : Build). is_live h build.name) (λ (build : Build). is_live dropped build.name) (freed name) live_read row_read (builds h));
+          ∙ sym (rows-mapped (blob_of l h) (blob_of l dropped) (λ (build : Build). is_live h build.name) (λ (build : Build). is_live dropped build.name)
+          (freed name) live_read row_read (builds h));
       same_pieces = ap (λ (all : Shelved). all.pieces) rows ∙ stands.same_pieces;
       same_readers = stands.same_readers;
       distinct = stands.distinct;
@@ -91,7 +95,8 @@ module _ (l : Limits) (s : Store) (h : History) (renderer : RendererId) (name : 
       same_blobs = ap (λ (all : Shelved). all.blobs) rows
           ∙ ap (without name) stands.same_blobs
           ∙ sym (
-          rows-without (blob_of l h) (blob_of l dropped) (λ (build : Build). is_live h build.name) (λ (build : Build). is_live dropped build.name) (λ (blob : Blob). not (name == blob.name)) live_unread
+          rows-without (blob_of l h) (blob_of l dropped) (λ (build : Build). is_live h build.name) (λ (build : Build). is_live dropped build.name)
+          (λ (blob : Blob). not (name == blob.name)) live_unread
           row_unread (builds h)
           );
       same_pieces = ap (λ (all : Shelved). all.pieces) rows ∙ stands.same_pieces;
@@ -102,7 +107,8 @@ module _ (l : Limits) (s : Store) (h : History) (renderer : RendererId) (name : 
     }
 
 module _ (l : Limits) (s : Store) (h : History) (stands : Stands l s h) where
-  pub kept-finish : (shelf : Shelved) (left : List Reader) → shelf ≡ record s.shelf { blobs = [] } → left ≡ [] → Stands l (record s { ended = true; shelf = shelf; readers = left }) (heard h events.Finish answers.Good)
+  pub kept-finish : (shelf : Shelved) (left : List Reader) → shelf ≡ record s.shelf { blobs = [] } → left ≡ []
+      → Stands l (record s { ended = true; shelf = shelf; readers = left }) (heard h events.Finish answers.Good)
   kept-finish shelf left rows none = record {
     same_limits = stands.same_limits;
     same_ended = refl;

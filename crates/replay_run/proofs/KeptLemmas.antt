@@ -33,7 +33,8 @@ same_name name = eq-eqb name name refl
 
 -- ---- a build
 
-module _ (l : Limits) (s : Store) (h : History) (renderer : RendererId) (name : ℕ) (kind : List ℕ) (parts : List Part) (plan : Plan) (stands : Stands l s h) (new : is_built h name ≡ false) where
+module _ (l : Limits) (s : Store) (h : History) (renderer : RendererId) (name : ℕ) (kind : List ℕ) (parts : List Part) (plan : Plan) (stands : Stands l s h)
+    (new : is_built h name ≡ false) where
   abbrev built : History
   built = heard h (events.Build renderer name kind parts) (answers.Planned plan)
 
@@ -48,12 +49,15 @@ module _ (l : Limits) (s : Store) (h : History) (renderer : RendererId) (name : 
   holder_new : holder built name ≡ Some renderer
   holder_new = rw (same_name name) refl
 
-  new_row : map (blob_of l built) (filter (λ (each : Build). is_live built each.name) (build ∷ [])) ≡ record { name = name; holder = Some renderer; bytes = sent build; pieces = length (build_pieces l.page build) } ∷ []
+  new_row : map (blob_of l built) (filter (λ (each : Build). is_live built each.name) (build ∷ []))
+      ≡ record { name = name; holder = Some renderer; bytes = sent build; pieces = length (build_pieces l.page build) } ∷ []
   new_row =
       let kept : is_live built name ≡ true = ap (λ (o : Option RendererId). is_some o || is_read (readers h) name) holder_new in
-      rw kept (ap (λ (o : Option RendererId). record { name = name; holder = o; bytes = sent build; pieces = length (build_pieces l.page build) } ∷ []) holder_new)
+      rw kept (ap (λ (o : Option RendererId). record { name = name; holder = o; bytes = sent build; pieces = length (build_pieces l.page build) } ∷ [])
+      holder_new)
 
-  rows_built : map (blob_of l built) (live_builds built) ≡ map (blob_of l h) (live_builds h) ++ record { name = name; holder = Some renderer; bytes = sent build; pieces = length (build_pieces l.page build) } ∷ []
+  rows_built : map (blob_of l built) (live_builds built) ≡ map (blob_of l h) (live_builds h)
+      ++ record { name = name; holder = Some renderer; bytes = sent build; pieces = length (build_pieces l.page build) } ∷ []
   rows_built =
       let live = λ (each : Build). is_live built each.name in
       ap (map (blob_of l built)) (filter-append live (builds h) (build ∷ []))
@@ -88,7 +92,8 @@ module _ (l : Limits) (s : Store) (h : History) (renderer : RendererId) (name : 
 
   held_built : (other : ℕ) → is_built built other ≡ false → holder built other ≡ None
   held_built other unbuilt =
-      let parts = or_parts (is_built h other) (list_any (λ (each : Build). other == each.name) (build ∷ [])) (sym (list_any-append (λ (each : Build). other == each.name) (builds h) (build ∷ [])) ∙ unbuilt) in
+      let parts = or_parts (is_built h other) (list_any (λ (each : Build). other == each.name) (build ∷ []))
+      (sym (list_any-append (λ (each : Build). other == each.name) (builds h) (build ∷ [])) ∙ unbuilt) in
       let apart : (other == name) ≡ false = (or_parts (other == name) false parts.1).0 in
       let apart' : (name == other) ≡ false = ne_eqb name other (λ same. eqb-false other name apart (sym same)) in
       rw apart' (stands.held other parts.0)
@@ -104,8 +109,10 @@ module _ (l : Limits) (s : Store) (h : History) (renderer : RendererId) (name : 
     same_renderers = stands.same_renderers;
     same_names = keys ∙ ap (λ all. all ++ name ∷ []) stands.same_names ∙ sym (map-append (λ (each : Build). each.name) (builds h) (build ∷ []));
     same_blobs = ap (λ (all : Shelved). all.blobs) rows
-        ∙ ap (λ all. all ++ record { name = name; holder = Some renderer; bytes = flat_map part_bytes parts; pieces = piece_total l.page parts } ∷ []) stands.same_blobs
-        ∙ ap (λ (n : ℕ). map (blob_of l h) (live_builds h) ++ record { name = name; holder = Some renderer; bytes = flat_map part_bytes parts; pieces = n } ∷ []) (sym (pieces_from-length l.page name 0 parts))
+        ∙ ap (λ all. all ++ record { name = name; holder = Some renderer; bytes = flat_map part_bytes parts; pieces = piece_total l.page parts } ∷ [])
+        stands.same_blobs
+        ∙ ap (λ (n : ℕ). map (blob_of l h) (live_builds h) ++ record { name = name; holder = Some renderer; bytes = flat_map part_bytes parts; pieces = n }
+        ∷ []) (sym (pieces_from-length l.page name 0 parts))
         ∙ sym rows_built;
     same_pieces = ap (λ (all : Shelved). all.pieces) rows ∙ ap (λ n. n + piece_total l.page parts) stands.same_pieces ∙ sym pieces_built;
     same_readers = stands.same_readers;

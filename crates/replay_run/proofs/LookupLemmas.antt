@@ -126,9 +126,11 @@ module _ (l : Limits) (s : Store) (h : History) (stands : Stands l s h) where
   is_spawned-keys renderer = ap (list_any (λ (known : ℕ). renderer == known)) stands.same_renderers
 
   pub is_built-keys : (name : ℕ) → list_any (λ (known : ℕ). name == known) s.names.keys ≡ is_built h name
-  is_built-keys name = ap (list_any (λ (known : ℕ). name == known)) stands.same_names ∙ any-map (λ (build : Build). build.name) (λ (known : ℕ). name == known) (builds h)
+  is_built-keys name = ap (list_any (λ (known : ℕ). name == known)) stands.same_names ∙ any-map (λ (build : Build). build.name) (λ (known : ℕ). name == known)
+      (builds h)
 
-  holds_in : (renderer : RendererId) (name : ℕ) (o : Option Build) → build_of h name ≡ o → is_held_by renderer (option_map (blob_of l h) o) ≡ has_handle h renderer name
+  holds_in : (renderer : RendererId) (name : ℕ) (o : Option Build) → build_of h name ≡ o → is_held_by renderer (option_map (blob_of l h) o)
+      ≡ has_handle h renderer name
   holds_in renderer name None found =
       let none : holder h name ≡ None = stands.held name (find_none (λ (build : Build). name == build.name) (builds h) found) in
       sym (ap (is_holder renderer) none)
@@ -142,7 +144,8 @@ module _ (l : Limits) (s : Store) (h : History) (stands : Stands l s h) where
       (λ (alive : is_live h name ≡ true). ap (is_held_by renderer) (blob_at-live name alive) ∙ holds_in renderer name (build_of h name) refl)
       (
       λ (dead : is_live h name ≡ false).
-      ap (is_held_by renderer) (blob_at-dead name dead) ∙ sym (nobody renderer (holder h name) (or_parts (is_some (holder h name)) (is_read (readers h) name) dead).0)
+      ap (is_held_by renderer) (blob_at-dead name dead) ∙ sym (nobody renderer (holder h name)
+      (or_parts (is_some (holder h name)) (is_read (readers h) name) dead).0)
       )
       (cases_Bool (is_live h name))
 
@@ -172,8 +175,10 @@ module _ (l : Limits) (s : Store) (h : History) (stands : Stands l s h) where
   pub is_read-rows : (name : ℕ) → some_reads s.readers name ≡ is_read (readers h) name
   is_read-rows name = ap (λ all. some_reads all name) stands.same_readers ∙ any-map reader_of (λ (reader : Reader). name == reader.blob) (readers h)
 
-  pub reader_at-rows : (number : ReaderId) → reader_at s.readers number ≡ option_map reader_of (find (λ (each : OpenReader). number.0 == each.number.0) (readers h))
-  reader_at-rows number = ap (λ all. reader_at all number) stands.same_readers ∙ find-map reader_of (λ (reader : Reader). number.0 == reader.number.0) (readers h)
+  pub reader_at-rows : (number : ReaderId) → reader_at s.readers number
+      ≡ option_map reader_of (find (λ (each : OpenReader). number.0 == each.number.0) (readers h))
+  reader_at-rows number = ap (λ all. reader_at all number) stands.same_readers ∙ find-map reader_of (λ (reader : Reader). number.0 == reader.number.0)
+      (readers h)
 
 -- who has a handle keeps the blob
 is_some-holder : (renderer : RendererId) (o : Option RendererId) → is_holder renderer o ≡ true → is_some o ≡ true

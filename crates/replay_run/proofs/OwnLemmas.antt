@@ -28,7 +28,8 @@ module _ (l : Limits) (h : History) (renderer : RendererId) (name : ℕ) (parts 
     build-few : nat_le 65536 (length (builds h)) ≡ false
     build-few = lt-leb 65536 (length (builds h)) few
 
-    pub build-pieces : 65536 < length (pieces l h) + length (build_pieces l.page (record { name = name; parts = parts })) → own_build l h renderer name parts ≡ None
+    pub build-pieces : 65536 < length (pieces l h) + length (build_pieces l.page (record { name = name; parts = parts })) → own_build l h renderer name parts
+        ≡ None
     build-pieces many =
         let full = lt-ltb 65536 (length (pieces l h) + length (build_pieces l.page (record { name = name; parts = parts }))) many in
         rw (spawned, new, build-few, full) refl
@@ -57,14 +58,17 @@ module _ (h : History) (renderer : RendererId) (name : ℕ) (spawned : is_spawne
     pub read-unbuilt : has_handle h renderer name ≡ true → is_unbuilt_read h reader name off len ≡ true → own_read h renderer reader name off len ≡ None
     read-unbuilt holds unbuilt = rw (spawned, holds, unbuilt) refl
 
-    pub read-opened : has_handle h renderer name ≡ true → is_unbuilt_read h reader name off len ≡ false → own_read h renderer reader name off len ≡ Some (answers.Opened reader (size_of h name) [])
+    pub read-opened : has_handle h renderer name ≡ true → is_unbuilt_read h reader name off len ≡ false → own_read h renderer reader name off len
+        ≡ Some (answers.Opened reader (size_of h name) [])
     read-opened holds fits = rw (spawned, holds, fits) refl
 
     -- a read that is built has a free number and a range inside the blob
     pub read-free : is_unbuilt_read h reader name off len ≡ false → is_open h reader ≡ false
-    read-free fits = (or_parts (is_open h reader) (nat_lt (size_of h name) (off + unwrap_or len 0)) (or_parts (is_open h reader || nat_lt (size_of h name) (off + unwrap_or len 0)) (nat_le 4096 (length (readers h))) fits).0).0
+    read-free fits = (or_parts (is_open h reader) (nat_lt (size_of h name) (off + unwrap_or len 0))
+        (or_parts (is_open h reader || nat_lt (size_of h name) (off + unwrap_or len 0)) (nat_le 4096 (length (readers h))) fits).0).0
 
     pub read-inside : is_unbuilt_read h reader name off len ≡ false → range_end (size_of h name) off len ≤ size_of h name
     read-inside fits =
-        let past = (or_parts (is_open h reader) (nat_lt (size_of h name) (off + unwrap_or len 0)) (or_parts (is_open h reader || nat_lt (size_of h name) (off + unwrap_or len 0)) (nat_le 4096 (length (readers h))) fits).0).1 in
+        let past = (or_parts (is_open h reader) (nat_lt (size_of h name) (off + unwrap_or len 0))
+        (or_parts (is_open h reader || nat_lt (size_of h name) (off + unwrap_or len 0)) (nat_le 4096 (length (readers h))) fits).0).1 in
         ends_inside (size_of h name) off len (ltb-false (size_of h name) (off + unwrap_or len 0) past)

@@ -53,7 +53,8 @@ part_pieces-All page name from len some =
     record { same = refl; above = omega arith; some = omega arith; within = omega arith }
     )
 
-range_sum : (page name from len a n : ℕ) → sum_by (λ (piece : Piece). piece.len) (map (piece_at page name from len) (range_with_len a n)) ≡ min (n * page) (len - a * page)
+range_sum : (page name from len a n : ℕ) → sum_by (λ (piece : Piece). piece.len) (map (piece_at page name from len) (range_with_len a n))
+    ≡ min (n * page) (len - a * page)
 range_sum page name from len a zero = omega arith
 range_sum page name from len a (suc n) =
     sum_by-cons (λ (piece : Piece). piece.len) (piece_at page name from len a) (map (piece_at page name from len) (range_with_len (a + 1) n))
@@ -71,7 +72,8 @@ part_pieces-length page name from len = length-map-range_with_len (piece_at page
 
 -- ---- the parts of a blob
 
-pub pieces_from-All : (page name from : ℕ) (parts : List Part) → 0 < page → AllByRecursion (IsPieceOf name from (byte_total parts)) (pieces_from page name from parts)
+pub pieces_from-All : (page name from : ℕ) (parts : List Part) → 0 < page → AllByRecursion (IsPieceOf name from (byte_total parts))
+    (pieces_from page name from parts)
 pieces_from-All page name from [] some = tt
 pieces_from-All page name from (part ∷ parts) some =
     let len = length (part_bytes part) in
@@ -88,7 +90,8 @@ pieces_from-All page name from (part ∷ parts) some =
     (pieces_from page name (from + len) parts) (pieces_from-All page name (from + len) parts some)
     )
 
-pub pieces_from-sum : (page name from : ℕ) (parts : List Part) → 0 < page → sum_by (λ (piece : Piece). piece.len) (pieces_from page name from parts) ≡ byte_total parts
+pub pieces_from-sum : (page name from : ℕ) (parts : List Part) → 0 < page → sum_by (λ (piece : Piece). piece.len) (pieces_from page name from parts)
+    ≡ byte_total parts
 pieces_from-sum page name from [] some = refl
 pieces_from-sum page name from (part ∷ parts) some =
     let len = length (part_bytes part) in

@@ -46,12 +46,14 @@ cell_at name index = record { blob = name; index = index }
 at_or_after : (a k : ℕ) → a ≤ k → (a ≡ k) ⊎ (a + 1 ≤ k)
 at_or_after a k low = ⊎_elim (λ (same : a ≡ k). inl same) (λ (other : a ≡ k → ⊥). inr (omega arith)) (cases_eq a k)
 
-any_cell : (test : Cell → Bool) (name a n k : ℕ) → a ≤ k → k < a + n → test (cell_at name k) ≡ true → list_any test (map (cell_at name) (range_with_len a n)) ≡ true
+any_cell : (test : Cell → Bool) (name a n k : ℕ) → a ≤ k → k < a + n → test (cell_at name k) ≡ true → list_any test (map (cell_at name) (range_with_len a n))
+    ≡ true
 any_cell test name a zero k low high here = absurd (omega arith)
 any_cell test name a (suc n) k low high here =
     ⊎_elim
     (λ (same : a ≡ k). or_left (test (cell_at name a)) (list_any test (map (cell_at name) (range_with_len (a + 1) n))) (rw same here))
-    (λ (more : a + 1 ≤ k). or_right (test (cell_at name a)) (list_any test (map (cell_at name) (range_with_len (a + 1) n))) (any_cell test name (a + 1) n k more (omega arith) here))
+    (λ (more : a + 1 ≤ k). or_right (test (cell_at name a)) (list_any test (map (cell_at name) (range_with_len (a + 1) n)))
+    (any_cell test name (a + 1) n k more (omega arith) here))
     (at_or_after a k low)
 
 -- a piece of a blob owns one of its cells
@@ -61,7 +63,8 @@ owns_some build piece is =
     let above : nat_le piece.from piece.from ≡ true = le-leb piece.from piece.from (omega arith) in
     let below : nat_lt piece.from (piece.from + piece.len) ≡ true = lt-ltb piece.from (piece.from + piece.len) (omega (arith, is.some)) in
     any_cell (owns piece) build.name 0 (length (sent build)) piece.from (omega arith) (omega (arith, is.some, is.within))
-    (and_from ((build.name == piece.blob) && nat_le piece.from piece.from) (nat_lt piece.from (piece.from + piece.len)) (and_from (build.name == piece.blob) (nat_le piece.from piece.from) same above) below)
+    (and_from ((build.name == piece.blob) && nat_le piece.from piece.from) (nat_lt piece.from (piece.from + piece.len))
+    (and_from (build.name == piece.blob) (nat_le piece.from piece.from) same above) below)
 
 -- and none of another blob's
 owns_none : (name : ℕ) (piece : Piece) → (name == piece.blob) ≡ false → (a n : ℕ) → list_any (owns piece) (map (cell_at name) (range_with_len a n)) ≡ false
@@ -74,14 +77,17 @@ owns_none name piece other a (suc n) =
 -- ---- what is reached
 
 -- a piece of a live blob is reached
-reached_live : (h : History) (front : List Build) (build : Build) (back : List Build) (piece : Piece) → builds h ≡ front ++ build ∷ back → is_live h build.name ≡ true
+reached_live : (h : History) (front : List Build) (build : Build) (back : List Build) (piece : Piece) → builds h ≡ front ++ build ∷ back → is_live h build.name
+    ≡ true
     → IsPieceOf build.name 0 (length (sent build)) piece → is_reached h piece ≡ true
 reached_live h front build back piece all live is =
     let test = λ (each : Build). is_live h each.name && list_any (owns piece) (cells each) in
-    ap (list_any test) all ∙ any_at test front build back (and_from (is_live h build.name) (list_any (owns piece) (cells build)) live (owns_some build piece is))
+    ap (list_any test) all ∙ any_at test front build back (and_from (is_live h build.name) (list_any (owns piece) (cells build)) live
+    (owns_some build piece is))
 
 -- a piece of a blob that isn't live is not
-unreached : (h : History) (build : Build) (piece : Piece) → is_live h build.name ≡ false → IsPieceOf build.name 0 (length (sent build)) piece → is_reached h piece ≡ false
+unreached : (h : History) (build : Build) (piece : Piece) → is_live h build.name ≡ false → IsPieceOf build.name 0 (length (sent build)) piece
+    → is_reached h piece ≡ false
 unreached h build piece dead is =
     any_none (λ (each : Build). is_live h each.name && list_any (owns piece) (cells each)) (builds h)
     (
@@ -92,7 +98,8 @@ unreached h build piece dead is =
     let name : each.name ≡ build.name = eqb-true each.name piece.blob same ∙ is.same in
     and_left (is_live h each.name) (list_any (owns piece) (cells each)) (ap (is_live h) name ∙ dead)
     )
-    (λ (other : (each.name == piece.blob) ≡ false). and_right (is_live h each.name) (list_any (owns piece) (cells each)) (owns_none each.name piece other 0 (length (sent each))))
+    (λ (other : (each.name == piece.blob) ≡ false). and_right (is_live h each.name) (list_any (owns piece) (cells each))
+    (owns_none each.name piece other 0 (length (sent each))))
     (cases_Bool (each.name == piece.blob))
     )
 
@@ -107,20 +114,23 @@ module _ (l : Limits) (h : History) where
       → filter (λ (each : Build). is_live h each.name) (build ∷ back) ≡ build ∷ filter (λ (each : Build). is_live h each.name) back
   filter_cons_live build back live = rw live refl
 
-  filter_cons_dead : (build : Build) (back : List Build) → is_live h build.name ≡ false → filter (λ (each : Build). is_live h each.name) (build ∷ back) ≡ filter (λ (each : Build). is_live h each.name) back
+  filter_cons_dead : (build : Build) (back : List Build) → is_live h build.name ≡ false → filter (λ (each : Build). is_live h each.name) (build ∷ back)
+      ≡ filter (λ (each : Build). is_live h each.name) back
   filter_cons_dead build back dead = rw dead refl
 
   pieces_of_one : (build : Build) → AllByRecursion (IsPieceOf build.name 0 (length (sent build))) (build_pieces l.page build)
   pieces_of_one build = pieces_from-All l.page build.name 0 build.parts l.some_page
 
-  reached_step : (front : List Build) (build : Build) (back : List Build) → builds h ≡ front ++ build ∷ back → is_live h build.name ≡ true → reached_of (build ∷ back) ≡ build_pieces l.page build ++ reached_of back
+  reached_step : (front : List Build) (build : Build) (back : List Build) → builds h ≡ front ++ build ∷ back → is_live h build.name ≡ true
+      → reached_of (build ∷ back) ≡ build_pieces l.page build ++ reached_of back
   reached_step front build back all live =
       filter-append (is_reached h) (build_pieces l.page build) (flat_map (build_pieces l.page) back)
       ∙ ap (λ some. some ++ reached_of back)
       (
       filter_all (is_reached h) (build_pieces l.page build)
       (
-      All_map (IsPieceOf build.name 0 (length (sent build))) (λ piece. is_reached h piece ≡ true) (λ piece is. reached_live h front build back piece all live is)
+      All_map (IsPieceOf build.name 0 (length (sent build))) (λ piece. is_reached h piece ≡ true)
+      (λ piece is. reached_live h front build back piece all live is)
       (build_pieces l.page build) (pieces_of_one build)
       )
       )
@@ -154,7 +164,8 @@ module _ (l : Limits) (h : History) where
       )
       (
       λ (dead : is_live h build.name ≡ false).
-      ap (sum_by (λ (piece : Piece). piece.len)) (unreached_step build back dead) ∙ rest ∙ ap byte_count (ap (map (blob_of l h)) (sym (filter_cons_dead build back dead)))
+      ap (sum_by (λ (piece : Piece). piece.len)) (unreached_step build back dead) ∙ rest ∙ ap byte_count
+      (ap (map (blob_of l h)) (sym (filter_cons_dead build back dead)))
       )
       (cases_Bool (is_live h build.name))
 

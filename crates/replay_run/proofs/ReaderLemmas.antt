@@ -36,23 +36,27 @@ apart a b other = ne_eqb b a (λ same. eqb-false a b other (sym same))
 abbrev pub has_number : ReaderId → OpenReader → Bool
 has_number number reader = number.0 == reader.number.0
 
-AreDistinct-push : (some : List OpenReader) (new : OpenReader) → list_any (has_number new.number) some ≡ false → AreDistinct some → AreDistinct (some ++ new ∷ [])
+AreDistinct-push : (some : List OpenReader) (new : OpenReader) → list_any (has_number new.number) some ≡ false → AreDistinct some
+    → AreDistinct (some ++ new ∷ [])
 AreDistinct-push [] new unused distinct = (refl, tt)
 AreDistinct-push (reader ∷ some) new unused distinct =
     let parts = or_parts (has_number new.number reader) (list_any (has_number new.number) some) unused in
-    let last : list_any (has_number reader.number) (new ∷ []) ≡ false = or_from (has_number reader.number new) false (apart new.number.0 reader.number.0 parts.0) refl in (
+    let last : list_any (has_number reader.number) (new ∷ []) ≡ false = or_from (has_number reader.number new) false
+    (apart new.number.0 reader.number.0 parts.0) refl in (
       list_any-append (has_number reader.number) some (new ∷ [])
           ∙ or_from (list_any (has_number reader.number) some) (list_any (has_number reader.number) (new ∷ [])) distinct.0 last,
       AreDistinct-push some new parts.1 distinct.1,
     )
 
-inside-push : (h : History) (some : List OpenReader) (new : OpenReader) → AllByRecursion (IsInside h) some → IsInside h new → AllByRecursion (IsInside h) (some ++ new ∷ [])
+inside-push : (h : History) (some : List OpenReader) (new : OpenReader) → AllByRecursion (IsInside h) some → IsInside h new → AllByRecursion (IsInside h)
+    (some ++ new ∷ [])
 inside-push h [] new inside fits = (fits, tt)
 inside-push h (reader ∷ some) new inside fits = (inside.0, inside-push h some new inside.1 fits)
 
 -- ---- a reader is opened
 
-module _ (l : Limits) (s : Store) (h : History) (renderer : RendererId) (number : ReaderId) (name off : ℕ) (len : Option ℕ) (size : ℕ) (kind : List ℕ) (stands : Stands l s h)
+module _ (l : Limits) (s : Store) (h : History) (renderer : RendererId) (number : ReaderId) (name off : ℕ) (len : Option ℕ) (size : ℕ) (kind : List ℕ)
+    (stands : Stands l s h)
     (alive : is_live h name ≡ true) (unused : is_open h number ≡ false) where
   abbrev opened : History
   opened = heard h (events.Read renderer number name off len) (answers.Opened number size kind)
@@ -62,12 +66,14 @@ module _ (l : Limits) (s : Store) (h : History) (renderer : RendererId) (number 
 
   live_opened : (build : Build) → is_live opened build.name ≡ is_live h build.name
   live_opened build =
-      let reads : is_read (readers opened) build.name ≡ (is_read (readers h) build.name || ((build.name == name) || false)) = list_any-append (λ (each : OpenReader). build.name == each.blob) (readers h) (reader ∷ []) in
+      let reads : is_read (readers opened) build.name ≡ (is_read (readers h) build.name || ((build.name == name) || false)) =
+      list_any-append (λ (each : OpenReader). build.name == each.blob) (readers h) (reader ∷ []) in
       ⊎_elim
       (
       λ (same : (build.name == name) ≡ true).
       let living : is_live h build.name ≡ true = ap (is_live h) (eqb-true build.name name same) ∙ alive in
-      let read : is_read (readers opened) build.name ≡ true = reads ∙ or_right (is_read (readers h) build.name) ((build.name == name) || false) (or_left (build.name == name) false same) in
+      let read : is_read (readers opened) build.name ≡ true = reads ∙ or_right (is_read (readers h) build.name) ((build.name == name) || false)
+      (or_left (build.name == name) false same) in
       or_right (is_some (holder h build.name)) (is_read (readers opened) build.name) read ∙ sym living
       )
       (
@@ -77,7 +83,8 @@ module _ (l : Limits) (s : Store) (h : History) (renderer : RendererId) (number 
       )
       (cases_Bool (build.name == name))
 
-  pub kept-opened : range_end size off len ≤ size_of h name → (all : List Reader) → all ≡ s.readers ++ reader_of reader ∷ [] → Stands l (record s { readers = all }) opened
+  pub kept-opened : range_end size off len ≤ size_of h name → (all : List Reader) → all ≡ s.readers ++ reader_of reader ∷ []
+      → Stands l (record s { readers = all }) opened
   kept-opened fits all rows = record {
     same_limits = stands.same_limits;
     same_ended = stands.same_ended;
@@ -86,7 +93,8 @@ module _ (l : Limits) (s : Store) (h : History) (renderer : RendererId) (number 
     same_blobs = stands.same_blobs
         ∙ sym (
         rows-same (blob_of l h) (blob_of l opened) (λ (build : Build). is_live h build.name) (λ (build : Build). is_live opened build.name) (builds h)
-        (all_each (λ (build : Build). (is_live opened build.name ≡ is_live h build.name) × (blob_of l opened build ≡ blob_of l h build)) (λ build. (live_opened build, refl)) (builds h))
+        (all_each (λ (build : Build). (is_live opened build.name ≡ is_live h build.name) × (blob_of l opened build ≡ blob_of l h build))
+        (λ build. (live_opened build, refl)) (builds h))
         );
     same_pieces = stands.same_pieces;
     same_readers = rows ∙ ap (λ rows'. rows' ++ reader_of reader ∷ []) stands.same_readers ∙ sym (map-append reader_of (readers h) (reader ∷ []));
@@ -97,13 +105,15 @@ module _ (l : Limits) (s : Store) (h : History) (renderer : RendererId) (number 
 
 -- ---- a reader moves on
 
-others_stay : (number : ReaderId) (place count : ℕ) (some : List OpenReader) → list_any (has_number number) some ≡ false → map (placed number place) (map reader_of some) ≡ map reader_of (map (advanced number count) some)
+others_stay : (number : ReaderId) (place count : ℕ) (some : List OpenReader) → list_any (has_number number) some ≡ false → map (placed number place)
+    (map reader_of some) ≡ map reader_of (map (advanced number count) some)
 others_stay number place count [] none = refl
 others_stay number place count (reader ∷ some) none =
     let parts = or_parts (has_number number reader) (list_any (has_number number) some) none in
     rw parts.0 (ap (λ rows. reader_of reader ∷ rows) (others_stay number place count some parts.1))
 
-pub one_moves : (number : ReaderId) (place count : ℕ) (found : OpenReader) (some : List OpenReader) → find (has_number number) some ≡ Some found → AreDistinct some → place ≡ found.place + count
+pub one_moves : (number : ReaderId) (place count : ℕ) (found : OpenReader) (some : List OpenReader) → find (has_number number) some ≡ Some found
+    → AreDistinct some → place ≡ found.place + count
     → map (placed number place) (map reader_of some) ≡ map reader_of (map (advanced number count) some)
 one_moves number place count found [] is distinct is_at = cc
 one_moves number place count found (reader ∷ some) is distinct is_at =
@@ -112,11 +122,13 @@ one_moves number place count found (reader ∷ some) is distinct is_at =
     λ (here : has_number number reader ≡ true).
     let first : Some reader ≡ Some found = rw here at is in
     let same : reader ≡ found = cc in
-    let rest : list_any (has_number number) some ≡ false = ap (λ (n : ℕ). list_any (λ (each : OpenReader). n == each.number.0) some) (eqb-true number.0 reader.number.0 here) ∙ distinct.0 in
+    let rest : list_any (has_number number) some ≡ false = ap (λ (n : ℕ). list_any (λ (each : OpenReader). n == each.number.0) some)
+    (eqb-true number.0 reader.number.0 here) ∙ distinct.0 in
     let moved : place ≡ reader.place + count = is_at ∙ ap (λ (each : OpenReader). each.place + count) (sym same) in
     rw here (
     ap (λ (n : ℕ). record { number = reader.number; blob = reader.blob; place = n; end = reader.end } ∷ map (placed number place) (map reader_of some)) moved
-    ∙ ap (λ rows. record { number = reader.number; blob = reader.blob; place = reader.place + count; end = reader.end } ∷ rows) (others_stay number place count some rest)
+    ∙ ap (λ rows. record { number = reader.number; blob = reader.blob; place = reader.place + count; end = reader.end } ∷ rows)
+    (others_stay number place count some rest)
     )
     )
     (
@@ -127,13 +139,16 @@ one_moves number place count found (reader ∷ some) is distinct is_at =
 
 module _ (number : ReaderId) (count : ℕ) where
   same_blob : (reader : OpenReader) → (advanced number count reader).blob ≡ reader.blob
-  same_blob reader = ⊎_elim (λ (here : has_number number reader ≡ true). rw here refl) (λ (there : has_number number reader ≡ false). rw there refl) (cases_Bool (has_number number reader))
+  same_blob reader = ⊎_elim (λ (here : has_number number reader ≡ true). rw here refl) (λ (there : has_number number reader ≡ false). rw there refl)
+      (cases_Bool (has_number number reader))
 
   same_number : (reader : OpenReader) → (advanced number count reader).number ≡ reader.number
-  same_number reader = ⊎_elim (λ (here : has_number number reader ≡ true). rw here refl) (λ (there : has_number number reader ≡ false). rw there refl) (cases_Bool (has_number number reader))
+  same_number reader = ⊎_elim (λ (here : has_number number reader ≡ true). rw here refl) (λ (there : has_number number reader ≡ false). rw there refl)
+      (cases_Bool (has_number number reader))
 
   same_end : (reader : OpenReader) → (advanced number count reader).end ≡ reader.end
-  same_end reader = ⊎_elim (λ (here : has_number number reader ≡ true). rw here refl) (λ (there : has_number number reader ≡ false). rw there refl) (cases_Bool (has_number number reader))
+  same_end reader = ⊎_elim (λ (here : has_number number reader ≡ true). rw here refl) (λ (there : has_number number reader ≡ false). rw there refl)
+      (cases_Bool (has_number number reader))
 
   pub reads_moved : (name : ℕ) (some : List OpenReader) → is_read (map (advanced number count) some) name ≡ is_read some name
   reads_moved name [] = refl

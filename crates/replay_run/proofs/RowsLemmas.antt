@@ -15,7 +15,8 @@ module _ {X Y : Type 0} where
       (cases_Bool (p x))
 
   -- each row is changed
-  pub rows-mapped : (f g : X → Y) (p q : X → Bool) (change : Y → Y) → ((x : X) → q x ≡ p x) → ((x : X) → g x ≡ change (f x)) → (xs : List X) → map g (filter q xs) ≡ map change (map f (filter p xs))
+  pub rows-mapped : (f g : X → Y) (p q : X → Bool) (change : Y → Y) → ((x : X) → q x ≡ p x) → ((x : X) → g x ≡ change (f x)) → (xs : List X)
+      → map g (filter q xs) ≡ map change (map f (filter p xs))
   rows-mapped f g p q change same changed [] = refl
   rows-mapped f g p q change same changed (x ∷ xs) =
       let rest = rows-mapped f g p q change same changed xs in
@@ -25,7 +26,8 @@ module _ {X Y : Type 0} where
       (cases_Bool (p x))
 
   -- some rows go
-  pub rows-without : (f g : X → Y) (p q : X → Bool) (keep : Y → Bool) → ((x : X) → q x ≡ (p x && keep (f x))) → ((x : X) → keep (f x) ≡ true → g x ≡ f x) → (xs : List X)
+  pub rows-without : (f g : X → Y) (p q : X → Bool) (keep : Y → Bool) → ((x : X) → q x ≡ (p x && keep (f x))) → ((x : X) → keep (f x) ≡ true → g x ≡ f x)
+      → (xs : List X)
       → map g (filter q xs) ≡ filter keep (map f (filter p xs))
   rows-without f g p q keep less same [] = refl
   rows-without f g p q keep less same (x ∷ xs) =

@@ -24,14 +24,16 @@ use Rattle.replay_run.proofs.ReaderLemmas.{has_number, one_moves, reads_moved, d
 
 -- ---- a reader moves on
 
-module _ (l : Limits) (s : Store) (h : History) (number : ReaderId) (bytes : List ℕ) (found : OpenReader) (stands : Stands l s h) (is : find (has_number number) (readers h) ≡ Some found) where
+module _ (l : Limits) (s : Store) (h : History) (number : ReaderId) (bytes : List ℕ) (found : OpenReader) (stands : Stands l s h)
+    (is : find (has_number number) (readers h) ≡ Some found) where
   abbrev given : History
   given = heard h (events.Step number) (answers.Given number bytes)
 
   live_given : (build : Build) → is_live given build.name ≡ is_live h build.name
   live_given build = ap (λ b. is_some (holder h build.name) || b) (reads_moved number (length bytes) build.name (readers h))
 
-  pub kept-given : (place : ℕ) (rows : List Reader) → place ≡ found.place + length bytes → rows ≡ map (placed number place) s.readers → Stands l (record s { readers = rows }) given
+  pub kept-given : (place : ℕ) (rows : List Reader) → place ≡ found.place + length bytes → rows ≡ map (placed number place) s.readers
+      → Stands l (record s { readers = rows }) given
   kept-given place rows moved are = record {
     same_limits = stands.same_limits;
     same_ended = stands.same_ended;
@@ -40,7 +42,8 @@ module _ (l : Limits) (s : Store) (h : History) (number : ReaderId) (bytes : Lis
     same_blobs = stands.same_blobs
         ∙ sym (
         rows-same (blob_of l h) (blob_of l given) (λ (build : Build). is_live h build.name) (λ (build : Build). is_live given build.name) (builds h)
-        (all_each (λ (build : Build). (is_live given build.name ≡ is_live h build.name) × (blob_of l given build ≡ blob_of l h build)) (λ build. (live_given build, refl)) (builds h))
+        (all_each (λ (build : Build). (is_live given build.name ≡ is_live h build.name) × (blob_of l given build ≡ blob_of l h build))
+        (λ build. (live_given build, refl)) (builds h))
         );
     same_pieces = stands.same_pieces;
     same_readers = are ∙ ap (map (placed number place)) stands.same_readers ∙ one_moves number place (length bytes) found (readers h) is stands.distinct moved;
@@ -61,7 +64,8 @@ left_none number (reader ∷ some) none =
     rw parts.0 (ap (λ rest. reader ∷ rest) (left_none number some parts.1))
 
 -- only the readers of the closed reader's blob are fewer
-reads_left : (number : ReaderId) (found : OpenReader) (name : ℕ) (some : List OpenReader) → find (has_number number) some ≡ Some found → AreDistinct some → (name == found.blob) ≡ false
+reads_left : (number : ReaderId) (found : OpenReader) (name : ℕ) (some : List OpenReader) → find (has_number number) some ≡ Some found → AreDistinct some
+    → (name == found.blob) ≡ false
     → is_read (left number some) name ≡ is_read some name
 reads_left number found name [] is distinct other = cc
 reads_left number found name (reader ∷ some) is distinct other =
@@ -71,10 +75,12 @@ reads_left number found name (reader ∷ some) is distinct other =
     let first : Some reader ≡ Some found = rw here at is in
     let same : reader ≡ found = cc in
     let apart : (name == reader.blob) ≡ false = ap (λ (each : OpenReader). name == each.blob) same ∙ other in
-    let rest : list_any (has_number number) some ≡ false = ap (λ (n : ℕ). list_any (λ (each : OpenReader). n == each.number.0) some) (eqb-true number.0 reader.number.0 here) ∙ distinct.0 in
+    let rest : list_any (has_number number) some ≡ false = ap (λ (n : ℕ). list_any (λ (each : OpenReader). n == each.number.0) some)
+    (eqb-true number.0 reader.number.0 here) ∙ distinct.0 in
     rw (here, apart) (ap (λ all. is_read all name) (left_none number some rest))
     )
-    (λ (there : has_number number reader ≡ false). rw there (ap (λ b. (name == reader.blob) || b) (reads_left number found name some (rw there at is) distinct.1 other)))
+    (λ (there : has_number number reader ≡ false). rw there (ap (λ b. (name == reader.blob) || b)
+    (reads_left number found name some (rw there at is) distinct.1 other)))
     (cases_Bool (has_number number reader))
 
 any_left : (number : ReaderId) (test : OpenReader → Bool) (some : List OpenReader) → list_any test some ≡ false → list_any test (left number some) ≡ false
@@ -83,7 +89,8 @@ any_left number test (reader ∷ some) none =
     let parts = or_parts (test reader) (list_any test some) none in
     ⊎_elim
     (λ (here : has_number number reader ≡ true). rw here (any_left number test some parts.1))
-    (λ (there : has_number number reader ≡ false). rw there (or_from (test reader) (list_any test (left number some)) parts.0 (any_left number test some parts.1)))
+    (λ (there : has_number number reader ≡ false). rw there (or_from (test reader) (list_any test (left number some)) parts.0
+    (any_left number test some parts.1)))
     (cases_Bool (has_number number reader))
 
 distinct_left : (number : ReaderId) (some : List OpenReader) → AreDistinct some → AreDistinct (left number some)
@@ -110,7 +117,8 @@ rows_left number (reader ∷ some) =
     (λ (there : has_number number reader ≡ false). rw there (ap (λ rows. reader_of reader ∷ rows) (rows_left number some)))
     (cases_Bool (has_number number reader))
 
-module _ (l : Limits) (s : Store) (h : History) (number : ReaderId) (status : Status) (found : OpenReader) (stands : Stands l s h) (is : find (has_number number) (readers h) ≡ Some found) where
+module _ (l : Limits) (s : Store) (h : History) (number : ReaderId) (status : Status) (found : OpenReader) (stands : Stands l s h)
+    (is : find (has_number number) (readers h) ≡ Some found) where
   abbrev ended : History
   ended = heard h (events.Step number) (answers.Ended number status)
 
@@ -160,7 +168,8 @@ module _ (l : Limits) (s : Store) (h : History) (number : ReaderId) (status : St
         ⊎_elim
         (
         λ (same : (found.blob == build.name) ≡ true).
-        ap (is_live ended) (sym (eqb-true found.blob build.name same)) ∙ gone ∙ sym (and_right (is_live h build.name) (not (found.blob == build.name)) (ap not same))
+        ap (is_live ended) (sym (eqb-true found.blob build.name same)) ∙ gone ∙ sym
+        (and_right (is_live h build.name) (not (found.blob == build.name)) (ap not same))
         )
         (
         λ (other : (found.blob == build.name) ≡ false).
@@ -168,7 +177,8 @@ module _ (l : Limits) (s : Store) (h : History) (number : ReaderId) (status : St
         )
         (cases_Bool (found.blob == build.name))
 
-    pub kept-gone : is_live ended found.blob ≡ false → (shelf : Shelved) → shelf ≡ record s.shelf { blobs = without found.blob s.shelf.blobs } → Stands l (record s { shelf = shelf; readers = rows }) ended
+    pub kept-gone : is_live ended found.blob ≡ false → (shelf : Shelved) → shelf ≡ record s.shelf { blobs = without found.blob s.shelf.blobs }
+        → Stands l (record s { shelf = shelf; readers = rows }) ended
     kept-gone gone shelf fewer = record {
       same_limits = stands.same_limits;
       same_ended = stands.same_ended;
@@ -177,7 +187,8 @@ module _ (l : Limits) (s : Store) (h : History) (number : ReaderId) (status : St
       same_blobs = ap (λ (all : Shelved). all.blobs) fewer
           ∙ ap (without found.blob) stands.same_blobs
           ∙ sym (
-          rows-without (blob_of l h) (blob_of l ended) (λ (build : Build). is_live h build.name) (λ (build : Build). is_live ended build.name) (λ (blob : Blob). not (found.blob == blob.name))
+          rows-without (blob_of l h) (blob_of l ended) (λ (build : Build). is_live h build.name) (λ (build : Build). is_live ended build.name)
+          (λ (blob : Blob). not (found.blob == blob.name))
           (live_gone gone) (λ build stays. refl) (builds h)
           );
       same_pieces = ap (λ (all : Shelved). all.pieces) fewer ∙ stands.same_pieces;
@@ -188,7 +199,8 @@ module _ (l : Limits) (s : Store) (h : History) (number : ReaderId) (status : St
     }
 
 -- the blob of an open reader lives
-pub live-reader : (h : History) (number : ReaderId) (found : OpenReader) (some : List OpenReader) → find (has_number number) some ≡ Some found → is_read some found.blob ≡ true
+pub live-reader : (h : History) (number : ReaderId) (found : OpenReader) (some : List OpenReader) → find (has_number number) some ≡ Some found
+    → is_read some found.blob ≡ true
 live-reader h number found [] is = cc
 live-reader h number found (reader ∷ some) is =
     ⊎_elim
@@ -198,5 +210,6 @@ live-reader h number found (reader ∷ some) is =
     let same : reader ≡ found = cc in
     or_left (found.blob == reader.blob) (is_read some found.blob) (eq-eqb found.blob reader.blob (ap (λ (each : OpenReader). each.blob) (sym same)))
     )
-    (λ (there : has_number number reader ≡ false). or_right (found.blob == reader.blob) (is_read some found.blob) (live-reader h number found some (rw there at is)))
+    (λ (there : has_number number reader ≡ false). or_right (found.blob == reader.blob) (is_read some found.blob)
+    (live-reader h number found some (rw there at is)))
     (cases_Bool (has_number number reader))

@@ -66,7 +66,8 @@ own_read h renderer reader name off len =
 -- a step wants an open reader
 abbrev pub own_step : Limits → History → ReaderId → Option Answer
 own_step l h reader =
-    Some (option_map_or (step_answer l h reader) (find (λ (each : OpenReader). reader.0 == each.number.0) (readers h)) (answers.Refused (refusals.NoReader reader)))
+    Some (option_map_or (step_answer l h reader) (find (λ (each : OpenReader). reader.0 == each.number.0) (readers h))
+    (answers.Refused (refusals.NoReader reader)))
 
 -- the first answer of a line, or nothing where the line is not built yet
 abbrev pub own : Limits → History → Event → Option Answer

@@ -17,12 +17,14 @@ pub record Piece : Type 0 where
 
 -- a part of `len` bytes, from this place of the blob's own bytes on, is cut at the multiples of `page` from its own start
 abbrev pub part_pieces : ℕ → ℕ → ℕ → ℕ → List Piece
-part_pieces page name from len = map (λ (k : ℕ). record { blob = name; from = from + k * page; len = min page (len - k * page) }) (range_with_len 0 (div_ceil len page))
+part_pieces page name from len = map (λ (k : ℕ). record { blob = name; from = from + k * page; len = min page (len - k * page) })
+    (range_with_len 0 (div_ceil len page))
 
 -- the pieces of the parts, one part after the other
 abbrev pub pieces_from : ℕ → ℕ → ℕ → List Part → List Piece
 pieces_from page name from [] = []
-pieces_from page name from (part ∷ parts) = part_pieces page name from (length (part_bytes part)) ++ pieces_from page name (from + length (part_bytes part)) parts
+pieces_from page name from (part ∷ parts) = part_pieces page name from (length (part_bytes part)) ++ pieces_from page name (from + length (part_bytes part))
+    parts
 
 -- the pieces of a blob
 abbrev pub build_pieces : ℕ → Build → List Piece

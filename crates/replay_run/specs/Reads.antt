@@ -85,4 +85,5 @@ IsUnbuilt (group ∷ groups) event = IfSome (limits_of group.event) (λ (l : Lim
 -- the word applies to the line that comes behind these groups: `lines` alone behind the greatest number of them, and any other before it
 abbrev pub IsRefused : List Group → Reason → List ℕ → Type 0
 IsRefused groups reason bytes =
-    ((length groups ≡ 2 ^ 20) × (reason ≡ reasons.Lines) × (bytes ≢ [])) ⊎ ((length groups < 2 ^ 20) × IsBad (λ event. IsFirst groups event) (λ event. IsUnbuilt groups event) reason bytes)
+    ((length groups ≡ 2 ^ 20) × (reason ≡ reasons.Lines) × (bytes ≢ []))
+    ⊎ ((length groups < 2 ^ 20) × IsBad (λ event. IsFirst groups event) (λ event. IsUnbuilt groups event) reason bytes)

@@ -26,7 +26,8 @@ abbrev pub have_ended : List Group → Bool
 have_ended [] = false
 have_ended (group ∷ groups) = has_ended (history_from start groups)
 
--- what is unread of the session behind the lines of the groups: at 0 anything, but the last line was `end`; at 2 a line that is refused, of the next number; at 5 anything, and the last line was not `end`; at 6 nothing
+-- what is unread of the session behind the lines of the groups: at 0 anything, but the last line was `end`; at 2 a line that is refused, of the next number; at
+-- 5 anything, and the last line was not `end`; at 6 nothing
 abbrev pub IsLeft : SessionEnd → List Group → Option (List ℕ) → Type 0
 IsLeft Finished groups unread = have_ended groups ≡ true
 IsLeft (Refused number reason) groups unread = (have_ended groups ≡ false) × (number ≡ length groups + 1) × IfSome unread (IsRefused groups reason)
@@ -39,10 +40,12 @@ IsLeft Stopped groups unread = (have_ended groups ≡ false) × IsAtEnd unread
 abbrev pub IsNext : List Group → Group → Type 0
 IsNext groups group = IsLegal (groups ++ group ∷ []) × (length groups < 2 ^ 20)
 
--- a part, which lacks some byte, of what was to be written for the next line: of a group's text, where the line is that of its event, or of the `!` line, where the line is refused
+-- a part, which lacks some byte, of what was to be written for the next line: of a group's text, where the line is that of its event, or of the `!` line, where
+-- the line is refused
 abbrev pub IsCut : (Group → Type 0) → (Reason → List ℕ → Type 0) → ℕ → Option (List ℕ) → List ℕ → Type 0
 IsCut Next IsOut number unread part =
-    ((group : Group) × Next group × IsLineOf group.event × IfSome unread (λ bytes. BeginsWith bytes (line_of group.event)) × IsProperPrefix part (group_text group))
+    ((group : Group) × Next group × IsLineOf group.event × IfSome unread (λ bytes. BeginsWith bytes (line_of group.event))
+    × IsProperPrefix part (group_text group))
     ⊎ ((reason : Reason) × IfSome unread (IsOut reason) × IsProperPrefix part (refusal_line number reason))
 
 -- what was written behind the texts of the groups: at 2 the `!` line, at 5 a part of what was to come, else nothing

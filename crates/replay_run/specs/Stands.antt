@@ -67,6 +67,7 @@ pub record Rests (l : Limits) (store : Store) (h : History) : Type 0 where
 
 -- a line gives a legal group, after which the store stands for the history with it
 abbrev pub Applies : Limits → History → Event → Store → Result Group ApplyFault → Type 0
-Applies l h event new (Ok group) = (group.event ≡ event) × IsLegalGroup l h group × Stands l new (after h group.event group.answers) × (unfinished (after h group.event group.answers) ≡ [])
+Applies l h event new (Ok group) = (group.event ≡ event) × IsLegalGroup l h group × Stands l new (after h group.event group.answers)
+    × (unfinished (after h group.event group.answers) ≡ [])
 Applies l h event new (Err faults.Unbuilt) = own l h event ≡ None
 Applies l h event new (Err faults.NoMemory) = Unit {0}

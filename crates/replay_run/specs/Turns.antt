@@ -61,8 +61,10 @@ IsOutPast reason bytes = (reason ≡ reasons.Lines) × (bytes ≢ [])
 
 -- what one line led to
 abbrev pub Turned : Limits → History → ℕ → Option (List ℕ) → Option (List ℕ) → Option (List ℕ) → Option (List ℕ) → Store → Turn → Type 0
-Turned l h number unread unread' held held' store More = (taken : IsTaken l h unread unread' held held' store) × (has_ended (after h taken.group.event taken.group.answers) ≡ false)
-Turned l h number unread unread' held held' store (Over Finished) = (taken : IsTaken l h unread unread' held held' store) × (has_ended (after h taken.group.event taken.group.answers) ≡ true)
+Turned l h number unread unread' held held' store More = (taken : IsTaken l h unread unread' held held' store)
+    × (has_ended (after h taken.group.event taken.group.answers) ≡ false)
+Turned l h number unread unread' held held' store (Over Finished) = (taken : IsTaken l h unread unread' held held' store)
+    × (has_ended (after h taken.group.event taken.group.answers) ≡ true)
 Turned l h number unread unread' held held' store (Over ending) = EndsAt (IsLegalGroup l h) (IsOutAt l h) number unread held held' ending
 
 -- the lines behind the first, all of them

@@ -13,14 +13,38 @@ module _ (inside : Inside) (seg len : ℕ) where
 
   pub taken_is : seg < length inside.came.items → get_or inside.came.items seg false ≡ true → Some Taken ≡ segment_fault (sending_of inside) seg len
   taken_is place came =
-      rw (length_slots inside.segment inside.came.items inside.bytes.items, lt-leb (length inside.came.items) seg place, came_at inside.segment seg inside.came.items inside.bytes.items, came) refl
+      rw (
+        length_slots inside.segment inside.came.items inside.bytes.items,
+        lt-leb (length inside.came.items) seg place,
+        came_at inside.segment seg
+            inside.came.items inside.bytes.items,
+        came,
+      ) refl
 
-  pub length_is : (want : ℕ) → seg < length inside.came.items → get_or inside.came.items seg false ≡ false → want ≡ min inside.segment (sum inside.parts.items - seg * inside.segment)
+  pub length_is : (want : ℕ) → seg < length inside.came.items → get_or inside.came.items seg false ≡ false → want
+      ≡ min inside.segment (sum inside.parts.items - seg * inside.segment)
       → len ≢ want → Some (Length want) ≡ segment_fault (sending_of inside) seg len
   length_is want place came is_want other =
-      rw (length_slots inside.segment inside.came.items inside.bytes.items, lt-leb (length inside.came.items) seg place, came_at inside.segment seg inside.came.items inside.bytes.items, came, ← is_want, ne_eqb len want other) refl
+      rw (
+        length_slots inside.segment inside.came.items inside.bytes.items,
+        lt-leb (length inside.came.items) seg place,
+        came_at inside.segment seg
+            inside.came.items inside.bytes.items,
+        came,
+        ← is_want,
+        ne_eqb len want other,
+      ) refl
 
-  pub fits_is : (want : ℕ) → seg < length inside.came.items → get_or inside.came.items seg false ≡ false → want ≡ min inside.segment (sum inside.parts.items - seg * inside.segment)
+  pub fits_is : (want : ℕ) → seg < length inside.came.items → get_or inside.came.items seg false ≡ false → want
+      ≡ min inside.segment (sum inside.parts.items - seg * inside.segment)
       → len ≡ want → None ≡ segment_fault (sending_of inside) seg len
   fits_is want place came is_want same =
-      rw (length_slots inside.segment inside.came.items inside.bytes.items, lt-leb (length inside.came.items) seg place, came_at inside.segment seg inside.came.items inside.bytes.items, came, ← is_want, eq-eqb len want same) refl
+      rw (
+        length_slots inside.segment inside.came.items inside.bytes.items,
+        lt-leb (length inside.came.items) seg place,
+        came_at inside.segment seg
+            inside.came.items inside.bytes.items,
+        came,
+        ← is_want,
+        eq-eqb len want same,
+      ) refl

@@ -24,6 +24,7 @@ are_segments inside whole =
     let own : length inside.bytes.items ≡ sum inside.parts.items = whole.buffer ∙ whole.own in
     record {
       number = length_slots inside.segment inside.came.items inside.bytes.items ∙ whole.flags ∙ ap (λ (len : ℕ). div_ceil len inside.segment) whole.own;
-      lengths = λ seg. subst (λ (len : ℕ). HasLength (min inside.segment (len - seg * inside.segment)) (get_or (slots inside.segment inside.came.items inside.bytes.items) seg None)) own
+      lengths = λ seg. subst (λ (len : ℕ). HasLength (min inside.segment (len - seg * inside.segment))
+          (get_or (slots inside.segment inside.came.items inside.bytes.items) seg None)) own
           (slot_length inside.segment seg inside.came.items inside.bytes.items);
     }

@@ -10,7 +10,8 @@ push_part page from [] y =
     append-nil (cut_spans page from y) ∙ ap (λ (place : ℕ). cut_spans page place y) (sym same)
 push_part page from (x ∷ xs) y =
     let same : from + x + sum xs ≡ from + sum (x ∷ xs) = omega (arith, sum_by-cons (λ (n : ℕ). n) x xs) in
-    rw (push_part page (from + x) xs y, same) (sym (append_assoc (cut_spans page from x) (piece_spans page (from + x) xs) (cut_spans page (from + sum (x ∷ xs)) y)))
+    rw (push_part page (from + x) xs y, same)
+    (sym (append_assoc (cut_spans page from x) (piece_spans page (from + x) xs) (cut_spans page (from + sum (x ∷ xs)) y)))
 
 pub more_parts : (page i : ℕ) (parts : List ℕ) → i < length parts
     → piece_spans page 0 (take (i + 1) parts) ≡ piece_spans page 0 (take i parts) ++ cut_spans page (sum (take i parts)) (get_or parts i 0)

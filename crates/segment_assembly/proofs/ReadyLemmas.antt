@@ -23,6 +23,7 @@ ready inside seg len whole can =
       size = can.2 ∙ ap (λ (own : ℕ). min inside.segment (own - seg * inside.segment)) (sym (whole.buffer ∙ whole.own));
     }
 
-pub ready_seen : (inside : Inside) (sending : Sending) (seg len : ℕ) → sending_of inside ≡ sending → IsWhole inside → CanTake sending seg len → IsReady inside seg len
+pub ready_seen : (inside : Inside) (sending : Sending) (seg len : ℕ) → sending_of inside ≡ sending → IsWhole inside → CanTake sending seg len
+    → IsReady inside seg len
 ready_seen inside sending seg len seen whole can =
     ready inside seg len whole (subst (λ (s : Sending). CanTake s seg len) (sym seen) can)

@@ -33,7 +33,14 @@ count_slots size [] bytes = refl
 count_slots size (c ∷ came) bytes =
     let first : Option (List ℕ) = cond c (Some (take size bytes)) None in
     let here : count_one is_none first ≡ count_one not c = ap (λ (b : Bool). cond {A = ℕ} b 1 0) (none_is c (take size bytes)) in
-    omega (arith, here, count_slots size came (drop size bytes), sum_by-cons (count_one is_none) first (slots size came (drop size bytes)), sum_by-cons (count_one not) c came)
+    omega (
+      arith,
+      here,
+      count_slots size came (drop size bytes),
+      sum_by-cons (count_one is_none) first (slots size came (drop size bytes)),
+      sum_by-cons
+          (count_one not) c came,
+    )
 
 pub count_set : (k : ℕ) (came : List Bool) → k < length came → get_or came k false ≡ false → count_by not (set came k true) + 1 ≡ count_by not came
 count_set k came within missing =
@@ -52,8 +59,11 @@ first_write size new bytes fits =
     ⊎_elim
     (λ (short : length new < size).
     let whole : length bytes ≤ length new = omega arith in
-    let rest : drop (0 + length new) bytes ≡ [] = rw none (drop_all (length new) bytes whole) in
-    (rw (rest, append-nil new) (take_all size new (omega (arith, short))), rw (rest, append-nil new) (drop_all size new (omega (arith, short)) ∙ sym (drop_all size bytes (omega (arith, short, whole))))))
+    let rest : drop (0 + length new) bytes ≡ [] = rw none (drop_all (length new) bytes whole) in (
+      rw (rest, append-nil new) (take_all size new (omega (arith, short))),
+      rw (rest, append-nil new)
+          (drop_all size new (omega (arith, short)) ∙ sym (drop_all size bytes (omega (arith, short, whole)))),
+    ))
     (λ (enough : size ≤ length new).
     let full : length new ≡ size = omega (arith, enough) in
     (take_at new _ size full, drop_at new _ size full ∙ ap (λ (n : ℕ). drop n bytes) (none ∙ full)))
@@ -72,7 +82,8 @@ next_write size start new bytes inside =
     )
 
 -- a segment written to its place is the one that is there, and no other changes
-pub write_slot : (size k : ℕ) (came : List Bool) (new bytes : List ℕ) → k < length came → k * size ≤ length bytes → length new ≡ min size (length bytes - k * size)
+pub write_slot : (size k : ℕ) (came : List Bool) (new bytes : List ℕ) → k < length came → k * size ≤ length bytes → length new
+    ≡ min size (length bytes - k * size)
     → slots size (set came k true) (spliced (k * size) new bytes) ≡ set (slots size came bytes) k (Some new)
 write_slot size k [] new bytes within inside fits = absurd (omega arith)
 write_slot size zero (c ∷ came) new bytes within inside fits =
@@ -82,7 +93,8 @@ write_slot size zero (c ∷ came) new bytes within inside fits =
 write_slot size (suc k) (c ∷ came) new bytes within inside fits =
     let next : suc k * size ≡ size + k * size = omega arith in
     let write = next_write size (k * size) new bytes (omega arith) in
-    let rest = write_slot size k came new (drop size bytes) (omega arith) (rw (length-drop size bytes) (omega arith)) (rw (length-drop size bytes) (omega arith)) in
+    let rest = write_slot size k came new (drop size bytes) (omega arith) (rw (length-drop size bytes) (omega arith))
+    (rw (length-drop size bytes) (omega arith)) in
     rw (next, write.0, write.1, rest) refl
 
 -- where none is missing, the segments one after the other are the buffer

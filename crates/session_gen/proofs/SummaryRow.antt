@@ -13,13 +13,15 @@ groups =
     record {
       event = events.Count;
       answers =
-          answers.Refused refusals.LimitsAgain ∷ answers.Done 5 ∷ answers.Job (record { 0 = 0 }) [] ∷ answers.Compacting (record { 0 = 1 }) (record { 0 = 0 }) []
+          answers.Refused refusals.LimitsAgain ∷ answers.Done 5 ∷ answers.Job (record { 0 = 0 }) [] ∷ answers.Compacting (record { 0 = 1 }) (record { 0 = 0 })
+          []
           ∷ answers.Paged (record { 0 = 0 }) (record { 0 = 0 }) [] ∷ answers.Given (record { 0 = 1 }) (7 ∷ 8 ∷ []) ∷ answers.Done 6 ∷ [];
       tally = record { pieces = 3; memory = 9; files = 1; disk = 4 };
     }
     ∷ record { event = events.Finish; answers = answers.Good ∷ []; tally = record { pieces = 4; memory = 5; files = 2; disk = 8 } } ∷ []
 
-pub row : Summary groups ≡ codes "lines 2" ++ 10 ∷ codes "done 2" ++ 10 ∷ codes "jobs 1" ++ 10 ∷ codes "paged 1" ++ 10 ∷ codes "given 2" ++ 10 ∷ codes "refused 1" ++ 10 ∷ codes "peak 9" ++ 10 ∷ codes "last 4 5 2 8" ++ 10 ∷ []
+pub row : Summary groups ≡ codes "lines 2" ++ 10 ∷ codes "done 2" ++ 10 ∷ codes "jobs 1" ++ 10 ∷ codes "paged 1" ++ 10 ∷ codes "given 2" ++ 10
+    ∷ codes "refused 1" ++ 10 ∷ codes "peak 9" ++ 10 ∷ codes "last 4 5 2 8" ++ 10 ∷ []
 row =
     rw (
       decimal_digit 2 (lit< tt),

@@ -1,4 +1,5 @@
--- The generated session of a number: five first lines, so many rounds, and the end. Own. Each round takes the next 259 words of the number's key stream, so round i has those from place 259 * i on.
+-- The generated session of a number: five first lines, so many rounds, and the end. Own. Each round takes the next 259 words of the number's key stream, so
+-- round i has those from place 259 * i on.
 use Rattle.std.proofs.Common.{lit<, lit≤}
 use Rattle.std.specs.Prelude.{ℕ, ◌+◌, ◌-◌, ◌*◌, ◌%◌, ◌==◌, List, [], ◌∷◌, ◌++◌, codes, decimal, flat_map, nat_le, pos, Some, None, if◌then◌else◌}
 use Rattle.std.specs.List.{range_with_len}

@@ -1,4 +1,5 @@
--- The words that a generated session is made of: the key stream of ChaCha8 whose key is a number. RFC 8439's cipher with 8 rounds, as the crate `rand_chacha` has it; which words are taken is own.
+-- The words that a generated session is made of: the key stream of ChaCha8 whose key is a number. RFC 8439's cipher with 8 rounds, as the crate `rand_chacha`
+-- has it; which words are taken is own.
 use Rattle.std.specs.Prelude.{ℕ, ◌+◌, List, ◌++◌, flat_map, replicate}
 use Rattle.std.specs.List.{range_with_len}
 use Rattle.std.specs.Int.{w32, w64, to_le_bytes}

@@ -54,7 +54,8 @@ limits_small l = (
 )
 
 -- numbers with the same digits are the same
-pub decimals_injective : (xs ys : List ℕ) → AllByRecursion (λ n. n < 2 ^ 64) xs → AllByRecursion (λ n. n < 2 ^ 64) ys → map decimal xs ≡ map decimal ys → xs ≡ ys
+pub decimals_injective : (xs ys : List ℕ) → AllByRecursion (λ n. n < 2 ^ 64) xs → AllByRecursion (λ n. n < 2 ^ 64) ys → map decimal xs ≡ map decimal ys → xs
+    ≡ ys
 decimals_injective [] [] small less same = refl
 decimals_injective [] (y ∷ ys) small less same = cc same
 decimals_injective (x ∷ xs) [] small less same = cc same
@@ -64,7 +65,8 @@ decimals_injective (x ∷ xs) (y ∷ ys) small less same =
     cc (first, rest)
 
 -- the numbers of limits are not refused
-pub limits_taken : (l : Limits) (numbers : List ℕ) → AllByRecursion (λ n. n < 2 ^ 64) numbers → map decimal (limit_numbers l) ≡ map decimal numbers → AreNoLimits numbers → ⊥
+pub limits_taken : (l : Limits) (numbers : List ℕ) → AllByRecursion (λ n. n < 2 ^ 64) numbers → map decimal (limit_numbers l) ≡ map decimal numbers
+    → AreNoLimits numbers → ⊥
 limits_taken l numbers small same wrong =
     let of_l : AreNoLimits (limit_numbers l) = subst AreNoLimits (sym (decimals_injective (limit_numbers l) numbers (limits_small l) small same)) wrong in
     absurd (cc (subst IsSome (limits_fit l) of_l))
@@ -106,7 +108,21 @@ made (memory ∷ disk ∷ big ∷ inline_max ∷ segment ∷ page ∷ chunk ∷ 
 made numbers fit = absurd fit
 
 fit_of : (l : Limits) → AreFit (limit_numbers l)
-fit_of l = (l.some_memory, l.memory_bound, l.disk_bound, l.some_big, l.big_bound, l.inline_bound, l.some_segment, l.segment_bound, l.some_page, l.page_bound, l.page_fits, l.some_chunk, l.chunk_bound)
+fit_of l = (
+  l.some_memory,
+  l.memory_bound,
+  l.disk_bound,
+  l.some_big,
+  l.big_bound,
+  l.inline_bound,
+  l.some_segment,
+  l.segment_bound,
+  l.some_page,
+  l.page_bound,
+  l.page_fits,
+  l.some_chunk,
+  l.chunk_bound,
+)
 
 same_made : (xs ys : List ℕ) → xs ≡ ys → (f : AreFit xs) (g : AreFit ys) → made xs f ≡ made ys g
 same_made xs ys same f g = subst (λ (zs : List ℕ). (h : AreFit zs) → made xs f ≡ made zs h) same (λ h. ap (made xs) (fit_once xs f h)) g

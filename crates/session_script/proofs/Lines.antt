@@ -84,7 +84,8 @@ limits_no_fault l fault (inl row) = row_no_fault (kinds_of words.Limits) fault (
 limits_no_fault l fault (inr refused) = limits_taken l refused.0 refused.1 refused.2 refused.3
 
 build_behind : (fault : LineFault) (r b kind : List ℕ) (all : List Part) → AllSpell (kinds_of words.Build) (r ∷ b ∷ kind ∷ []) → AllByRecursion PartHasText all
-    → IsFirstFault (kinds_of words.Build) fault (r ∷ b ∷ kind ∷ map part_text all) ⊎ (AllSpell (kinds_of words.Build) (r ∷ b ∷ kind ∷ []) × IsFirstPartFault fault (map part_text all)) → ⊥
+    → IsFirstFault (kinds_of words.Build) fault (r ∷ b ∷ kind ∷ map part_text all)
+    ⊎ (AllSpell (kinds_of words.Build) (r ∷ b ∷ kind ∷ []) × IsFirstPartFault fault (map part_text all)) → ⊥
 build_behind fault r b kind all heads fits (inl first) = first_no_fault (kinds_of words.Build) fault (r ∷ b ∷ kind ∷ []) heads first
 build_behind fault r b kind all heads fits (inr behind) = parts_no_fault all fault fits behind.1
 
@@ -100,21 +101,36 @@ own_no_fault (events.Limits l) fits fault wrong = limits_no_fault l fault wrong
 own_no_fault (events.Limits2 l) fits fault wrong = limits_no_fault l fault wrong
 own_no_fault (events.Build r b kind all) fits fault wrong =
     build_no_fault fault _ _ _ all ((r.0, fits.0, refl), ((b, fits.1, refl), ((kind, fits.2.0, fits.2.1, refl), tt))) fits.3 fits.4 wrong
-own_no_fault (events.Spawn r origin) fits fault wrong = row_no_fault (kinds_of words.Spawn) fault (event_fields (events.Spawn r origin)) ((r.0, fits.0, refl), (fits.1, tt)) wrong
+own_no_fault (events.Spawn r origin) fits fault wrong = row_no_fault (kinds_of words.Spawn) fault (event_fields (events.Spawn r origin))
+    ((r.0, fits.0, refl), (fits.1, tt)) wrong
 own_no_fault (events.Die r) fits fault wrong = row_no_fault (kinds_of words.Die) fault (event_fields (events.Die r)) ((r.0, fits, refl), tt) wrong
-own_no_fault (events.File name stamp bytes) fits fault wrong = row_no_fault (kinds_of words.File) fault (event_fields (events.File name stamp bytes)) (fits.0, ((stamp, fits.1, refl), ((bytes, fits.2, refl), tt))) wrong
+own_no_fault (events.File name stamp bytes) fits fault wrong = row_no_fault (kinds_of words.File) fault (event_fields (events.File name stamp bytes))
+    (fits.0, ((stamp, fits.1, refl), ((bytes, fits.2, refl), tt))) wrong
 own_no_fault (events.Gone name) fits fault wrong = row_no_fault (kinds_of words.Gone) fault (event_fields (events.Gone name)) (fits, tt) wrong
-own_no_fault (events.Slice r b src start end kind) fits fault wrong = row_no_fault (kinds_of words.Slice) fault (event_fields (events.Slice r b src start end kind)) ((r.0, fits.0, refl), ((b, fits.1, refl), ((src, fits.2, refl), ((start, fits.3, refl), ((end, fits.4, refl), ((kind, fits.5.0, fits.5.1, refl), tt)))))) wrong
-own_no_fault (events.Segment r b seg bytes) fits fault wrong = row_no_fault (kinds_of words.Segment) fault (event_fields (events.Segment r b seg bytes)) ((r.0, fits.0, refl), ((b, fits.1, refl), ((seg, fits.2, refl), ((bytes, fits.3, refl), tt)))) wrong
-own_no_fault (events.Pass r to b) fits fault wrong = row_no_fault (kinds_of words.Pass) fault (event_fields (events.Pass r to b)) ((r.0, fits.0, refl), ((to.0, fits.1, refl), ((b, fits.2, refl), tt))) wrong
-own_no_fault (events.Drop r b) fits fault wrong = row_no_fault (kinds_of words.Drop) fault (event_fields (events.Drop r b)) ((r.0, fits.0, refl), ((b, fits.1, refl), tt)) wrong
-own_no_fault (events.Stat r b) fits fault wrong = row_no_fault (kinds_of words.Stat) fault (event_fields (events.Stat r b)) ((r.0, fits.0, refl), ((b, fits.1, refl), tt)) wrong
-own_no_fault (events.Url r b text) fits fault wrong = row_no_fault (kinds_of words.Url) fault (event_fields (events.Url r b text)) ((r.0, fits.0, refl), ((b, fits.1, refl), (fits.2, tt))) wrong
-own_no_fault (events.Revoke r text) fits fault wrong = row_no_fault (kinds_of words.Revoke) fault (event_fields (events.Revoke r text)) ((r.0, fits.0, refl), (fits.1, tt)) wrong
-own_no_fault (events.Read r q b off len) fits fault wrong = row_no_fault (kinds_of words.Read) fault (event_fields (events.Read r q b off len)) ((r.0, fits.0, refl), ((q.0, fits.1, refl), ((b, fits.2, refl), ((off, fits.3, refl), ((len, fits.4, refl), tt))))) wrong
-own_no_fault (events.Fetch r q text off len) fits fault wrong = row_no_fault (kinds_of words.Fetch) fault (event_fields (events.Fetch r q text off len)) ((r.0, fits.0, refl), ((q.0, fits.1, refl), (fits.2, ((off, fits.3, refl), ((len, fits.4, refl), tt))))) wrong
+own_no_fault (events.Slice r b src start end kind) fits fault wrong = row_no_fault (kinds_of words.Slice) fault
+    (event_fields (events.Slice r b src start end kind)) (
+      (r.0, fits.0, refl),
+      ((b, fits.1, refl), ((src, fits.2, refl), ((start, fits.3, refl), ((end, fits.4, refl), ((kind, fits.5.0, fits.5.1, refl), tt))))),
+    ) wrong
+own_no_fault (events.Segment r b seg bytes) fits fault wrong = row_no_fault (kinds_of words.Segment) fault (event_fields (events.Segment r b seg bytes))
+    ((r.0, fits.0, refl), ((b, fits.1, refl), ((seg, fits.2, refl), ((bytes, fits.3, refl), tt)))) wrong
+own_no_fault (events.Pass r to b) fits fault wrong = row_no_fault (kinds_of words.Pass) fault (event_fields (events.Pass r to b))
+    ((r.0, fits.0, refl), ((to.0, fits.1, refl), ((b, fits.2, refl), tt))) wrong
+own_no_fault (events.Drop r b) fits fault wrong = row_no_fault (kinds_of words.Drop) fault (event_fields (events.Drop r b))
+    ((r.0, fits.0, refl), ((b, fits.1, refl), tt)) wrong
+own_no_fault (events.Stat r b) fits fault wrong = row_no_fault (kinds_of words.Stat) fault (event_fields (events.Stat r b))
+    ((r.0, fits.0, refl), ((b, fits.1, refl), tt)) wrong
+own_no_fault (events.Url r b text) fits fault wrong = row_no_fault (kinds_of words.Url) fault (event_fields (events.Url r b text))
+    ((r.0, fits.0, refl), ((b, fits.1, refl), (fits.2, tt))) wrong
+own_no_fault (events.Revoke r text) fits fault wrong = row_no_fault (kinds_of words.Revoke) fault (event_fields (events.Revoke r text))
+    ((r.0, fits.0, refl), (fits.1, tt)) wrong
+own_no_fault (events.Read r q b off len) fits fault wrong = row_no_fault (kinds_of words.Read) fault (event_fields (events.Read r q b off len))
+    ((r.0, fits.0, refl), ((q.0, fits.1, refl), ((b, fits.2, refl), ((off, fits.3, refl), ((len, fits.4, refl), tt))))) wrong
+own_no_fault (events.Fetch r q text off len) fits fault wrong = row_no_fault (kinds_of words.Fetch) fault (event_fields (events.Fetch r q text off len))
+    ((r.0, fits.0, refl), ((q.0, fits.1, refl), (fits.2, ((off, fits.3, refl), ((len, fits.4, refl), tt))))) wrong
 own_no_fault (events.Step q) fits fault wrong = row_no_fault (kinds_of words.Step) fault (event_fields (events.Step q)) ((q.0, fits, refl), tt) wrong
-own_no_fault (events.Cancel r q) fits fault wrong = row_no_fault (kinds_of words.Cancel) fault (event_fields (events.Cancel r q)) ((r.0, fits.0, refl), ((q.0, fits.1, refl), tt)) wrong
+own_no_fault (events.Cancel r q) fits fault wrong = row_no_fault (kinds_of words.Cancel) fault (event_fields (events.Cancel r q))
+    ((r.0, fits.0, refl), ((q.0, fits.1, refl), tt)) wrong
 own_no_fault (events.Disk j) fits fault wrong = row_no_fault (kinds_of words.Disk) fault (event_fields (events.Disk j)) ((j.0, fits, refl), tt) wrong
 own_no_fault (events.Lost j) fits fault wrong = row_no_fault (kinds_of words.Lost) fault (event_fields (events.Lost j)) ((j.0, fits, refl), tt) wrong
 own_no_fault events.Count fits fault wrong = row_no_fault (kinds_of words.Count) fault (event_fields events.Count) tt wrong
@@ -125,21 +141,29 @@ own_visible : (event : Event) → HasSpelling event → AllByRecursion AreVisibl
 own_visible (events.Limits l) fits = all_visible (kinds_of words.Limits) (event_fields (events.Limits l)) (limits_spelled l)
 own_visible (events.Limits2 l) fits = all_visible (kinds_of words.Limits) (event_fields (events.Limits2 l)) (limits_spelled l)
 own_visible (events.Build r b kind all) fits =
-    let heads = all_visible (kinds_of words.Build) (decimal r.0 ∷ name_text b ∷ hex_text kind ∷ []) ((r.0, fits.0, refl), ((b, fits.1, refl), ((kind, fits.2.0, fits.2.1, refl), tt))) in
+    let heads = all_visible (kinds_of words.Build) (decimal r.0 ∷ name_text b ∷ hex_text kind ∷ [])
+    ((r.0, fits.0, refl), ((b, fits.1, refl), ((kind, fits.2.0, fits.2.1, refl), tt))) in
     (heads.0, (heads.1.0, (heads.1.1.0, parts_visible all fits.4)))
 own_visible (events.Spawn r origin) fits = all_visible (kinds_of words.Spawn) (event_fields (events.Spawn r origin)) ((r.0, fits.0, refl), (fits.1, tt))
 own_visible (events.Die r) fits = all_visible (kinds_of words.Die) (event_fields (events.Die r)) ((r.0, fits, refl), tt)
-own_visible (events.File name stamp bytes) fits = all_visible (kinds_of words.File) (event_fields (events.File name stamp bytes)) (fits.0, ((stamp, fits.1, refl), ((bytes, fits.2, refl), tt)))
+own_visible (events.File name stamp bytes) fits = all_visible (kinds_of words.File) (event_fields (events.File name stamp bytes))
+    (fits.0, ((stamp, fits.1, refl), ((bytes, fits.2, refl), tt)))
 own_visible (events.Gone name) fits = all_visible (kinds_of words.Gone) (event_fields (events.Gone name)) (fits, tt)
-own_visible (events.Slice r b src start end kind) fits = all_visible (kinds_of words.Slice) (event_fields (events.Slice r b src start end kind)) ((r.0, fits.0, refl), ((b, fits.1, refl), ((src, fits.2, refl), ((start, fits.3, refl), ((end, fits.4, refl), ((kind, fits.5.0, fits.5.1, refl), tt))))))
-own_visible (events.Segment r b seg bytes) fits = all_visible (kinds_of words.Segment) (event_fields (events.Segment r b seg bytes)) ((r.0, fits.0, refl), ((b, fits.1, refl), ((seg, fits.2, refl), ((bytes, fits.3, refl), tt))))
-own_visible (events.Pass r to b) fits = all_visible (kinds_of words.Pass) (event_fields (events.Pass r to b)) ((r.0, fits.0, refl), ((to.0, fits.1, refl), ((b, fits.2, refl), tt)))
+own_visible (events.Slice r b src start end kind) fits = all_visible (kinds_of words.Slice) (event_fields (events.Slice r b src start end kind))
+    ((r.0, fits.0, refl), ((b, fits.1, refl), ((src, fits.2, refl), ((start, fits.3, refl), ((end, fits.4, refl), ((kind, fits.5.0, fits.5.1, refl), tt))))))
+own_visible (events.Segment r b seg bytes) fits = all_visible (kinds_of words.Segment) (event_fields (events.Segment r b seg bytes))
+    ((r.0, fits.0, refl), ((b, fits.1, refl), ((seg, fits.2, refl), ((bytes, fits.3, refl), tt))))
+own_visible (events.Pass r to b) fits = all_visible (kinds_of words.Pass) (event_fields (events.Pass r to b))
+    ((r.0, fits.0, refl), ((to.0, fits.1, refl), ((b, fits.2, refl), tt)))
 own_visible (events.Drop r b) fits = all_visible (kinds_of words.Drop) (event_fields (events.Drop r b)) ((r.0, fits.0, refl), ((b, fits.1, refl), tt))
 own_visible (events.Stat r b) fits = all_visible (kinds_of words.Stat) (event_fields (events.Stat r b)) ((r.0, fits.0, refl), ((b, fits.1, refl), tt))
-own_visible (events.Url r b text) fits = all_visible (kinds_of words.Url) (event_fields (events.Url r b text)) ((r.0, fits.0, refl), ((b, fits.1, refl), (fits.2, tt)))
+own_visible (events.Url r b text) fits = all_visible (kinds_of words.Url) (event_fields (events.Url r b text))
+    ((r.0, fits.0, refl), ((b, fits.1, refl), (fits.2, tt)))
 own_visible (events.Revoke r text) fits = all_visible (kinds_of words.Revoke) (event_fields (events.Revoke r text)) ((r.0, fits.0, refl), (fits.1, tt))
-own_visible (events.Read r q b off len) fits = all_visible (kinds_of words.Read) (event_fields (events.Read r q b off len)) ((r.0, fits.0, refl), ((q.0, fits.1, refl), ((b, fits.2, refl), ((off, fits.3, refl), ((len, fits.4, refl), tt)))))
-own_visible (events.Fetch r q text off len) fits = all_visible (kinds_of words.Fetch) (event_fields (events.Fetch r q text off len)) ((r.0, fits.0, refl), ((q.0, fits.1, refl), (fits.2, ((off, fits.3, refl), ((len, fits.4, refl), tt)))))
+own_visible (events.Read r q b off len) fits = all_visible (kinds_of words.Read) (event_fields (events.Read r q b off len))
+    ((r.0, fits.0, refl), ((q.0, fits.1, refl), ((b, fits.2, refl), ((off, fits.3, refl), ((len, fits.4, refl), tt)))))
+own_visible (events.Fetch r q text off len) fits = all_visible (kinds_of words.Fetch) (event_fields (events.Fetch r q text off len))
+    ((r.0, fits.0, refl), ((q.0, fits.1, refl), (fits.2, ((off, fits.3, refl), ((len, fits.4, refl), tt)))))
 own_visible (events.Step q) fits = all_visible (kinds_of words.Step) (event_fields (events.Step q)) ((q.0, fits, refl), tt)
 own_visible (events.Cancel r q) fits = all_visible (kinds_of words.Cancel) (event_fields (events.Cancel r q)) ((r.0, fits.0, refl), ((q.0, fits.1, refl), tt))
 own_visible (events.Disk j) fits = all_visible (kinds_of words.Disk) (event_fields (events.Disk j)) ((j.0, fits, refl), tt)

@@ -32,8 +32,16 @@ parts_once (text ∷ texts) f g (inr a) (inr b) = parts_once texts f g a.1 b.1
 
 -- seven numbers spell seven numbers
 numbers_spelled : (numbers : List ℕ) → AllByRecursion (λ n. n < 2 ^ 64) numbers → AreNoLimits numbers → AllSpell (kinds_of words.Limits) (map decimal numbers)
-numbers_spelled (a ∷ b ∷ c ∷ d ∷ e ∷ f ∷ g ∷ []) small wrong =
-    ((a, small.0, refl), ((b, small.1.0, refl), ((c, small.1.1.0, refl), ((d, small.1.1.1.0, refl), ((e, small.1.1.1.1.0, refl), ((f, small.1.1.1.1.1.0, refl), ((g, small.1.1.1.1.1.1.0, refl), tt)))))))
+numbers_spelled (a ∷ b ∷ c ∷ d ∷ e ∷ f ∷ g ∷ []) small wrong = (
+  (a, small.0, refl),
+  (
+    (b, small.1.0, refl),
+    (
+      (c, small.1.1.0, refl),
+      ((d, small.1.1.1.0, refl), ((e, small.1.1.1.1.0, refl), ((f, small.1.1.1.1.1.0, refl), ((g, small.1.1.1.1.1.1.0, refl), tt)))),
+    ),
+  ),
+)
 numbers_spelled numbers small wrong = absurd wrong
 
 limits_once : (texts : List (List ℕ)) (f g : LineFault) → IsLimitsFault f texts → IsLimitsFault g texts → f ≡ g
@@ -45,7 +53,8 @@ limits_once texts f g (inr a) (inl b) =
 limits_once texts f g (inr a) (inr b) = a.4 ∙ sym b.4
 
 -- the first three fields, and what stands behind them
-heads_once : (texts : List (List ℕ)) (f : LineFault) → IsBuildCount texts → IsFirstFault (kinds_of words.Build) f texts → AllSpell (kinds_of words.Build) (take 3 texts) → ⊥
+heads_once : (texts : List (List ℕ)) (f : LineFault) → IsBuildCount texts → IsFirstFault (kinds_of words.Build) f texts → AllSpell (kinds_of words.Build)
+    (take 3 texts) → ⊥
 heads_once [] f count wrong all = absurd all
 heads_once (a ∷ []) f count wrong all = absurd all.1
 heads_once (a ∷ b ∷ []) f count wrong all = absurd all.1.1

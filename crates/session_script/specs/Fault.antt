@@ -30,7 +30,8 @@ abbrev pub IsPartFault : LineFault → List (List ℕ) → Type 0
 IsPartFault fault [] = ⊥
 IsPartFault fault (first ∷ []) = fault ≡ faults.Word
 IsPartFault fault (first ∷ second ∷ own) =
-    (((letter : Letter) → first ≢ letter_text letter) × (fault ≡ faults.Word)) ⊎ ((letter : Letter) × (first ≡ letter_text letter) × IsRowFault (kinds_of_letter letter) fault (second ∷ own))
+    (((letter : Letter) → first ≢ letter_text letter) × (fault ≡ faults.Word))
+    ⊎ ((letter : Letter) × (first ≡ letter_text letter) × IsRowFault (kinds_of_letter letter) fault (second ∷ own))
 
 -- the first part that is none
 abbrev pub IsFirstPartFault : LineFault → List (List ℕ) → Type 0
@@ -70,7 +71,8 @@ kinds_of words.Finish = []
 -- of `limits` and `limits2`: the fields, or else the numbers that they spell
 abbrev pub IsLimitsFault : LineFault → List (List ℕ) → Type 0
 IsLimitsFault fault texts =
-    IsRowFault (kinds_of words.Limits) fault texts ⊎ ((numbers : List ℕ) × AllByRecursion (λ n. n < 2 ^ 64) numbers × (texts ≡ map decimal numbers) × AreNoLimits numbers × (fault ≡ faults.Limits))
+    IsRowFault (kinds_of words.Limits) fault texts ⊎ ((numbers : List ℕ) × AllByRecursion (λ n. n < 2 ^ 64) numbers × (texts ≡ map decimal numbers)
+    × AreNoLimits numbers × (fault ≡ faults.Limits))
 
 -- the number of fields of a `build` line: three and at most 1,024 parts
 abbrev pub IsBuildCount : List (List ℕ) → Type 0
@@ -79,7 +81,8 @@ IsBuildCount texts = (3 ≤ length texts) × (length texts ≤ 1027)
 -- of `build`: the number of fields, or else the first three, or else the parts
 abbrev pub IsBuildFault : LineFault → List (List ℕ) → Type 0
 IsBuildFault fault texts =
-    ((IsBuildCount texts → ⊥) × (fault ≡ faults.Fields)) ⊎ (IsBuildCount texts × (IsFirstFault (kinds_of words.Build) fault texts ⊎ (AllSpell (kinds_of words.Build) (take 3 texts) × IsFirstPartFault fault (drop 3 texts))))
+    ((IsBuildCount texts → ⊥) × (fault ≡ faults.Fields)) ⊎ (IsBuildCount texts
+    × (IsFirstFault (kinds_of words.Build) fault texts ⊎ (AllSpell (kinds_of words.Build) (take 3 texts) × IsFirstPartFault fault (drop 3 texts))))
 
 -- what is wrong with the fields behind a word
 abbrev pub IsOwnFault : Word → LineFault → List (List ℕ) → Type 0

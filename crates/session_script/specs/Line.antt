@@ -116,7 +116,8 @@ HasSpelling (events.Die r) = r.0 < 2 ^ 32
 HasSpelling (events.File name stamp bytes) = (is_file_name name ≡ true) × (stamp < 2 ^ 64) × IsBytes bytes
 HasSpelling (events.Gone name) = is_file_name name ≡ true
 HasSpelling (events.Build r b kind parts) = (r.0 < 2 ^ 32) × (b < 2 ^ 128) × IsContentType kind × (length parts ≤ MOST_PARTS) × AllByRecursion PartHasText parts
-HasSpelling (events.Slice r b src start end kind) = (r.0 < 2 ^ 32) × (b < 2 ^ 128) × (src < 2 ^ 128) × IfSome start (λ z. FitsSigned w64 z) × IfSome end (λ z. FitsSigned w64 z) × IsContentType kind
+HasSpelling (events.Slice r b src start end kind) = (r.0 < 2 ^ 32) × (b < 2 ^ 128) × (src < 2 ^ 128) × IfSome start (λ z. FitsSigned w64 z)
+    × IfSome end (λ z. FitsSigned w64 z) × IsContentType kind
 HasSpelling (events.Segment r b seg bytes) = (r.0 < 2 ^ 32) × (b < 2 ^ 128) × (seg < 2 ^ 32) × IsBytes bytes
 HasSpelling (events.Pass r to b) = (r.0 < 2 ^ 32) × (to.0 < 2 ^ 32) × (b < 2 ^ 128)
 HasSpelling (events.Drop r b) = (r.0 < 2 ^ 32) × (b < 2 ^ 128)

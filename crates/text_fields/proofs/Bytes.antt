@@ -30,7 +30,8 @@ decimal_all P of n fits =
     let numeral = decimal_is_IsNumeral n fits in
     All-from_get_or P (decimal n) 0 (λ i lt. let d = digit_at (decimal n) i numeral.0.1 lt in of.digit _ d.0 d.1)
 
-lower_one : (P : ℕ → Type 0) → OfDigits P → (c : ℕ) → (b d : Bool) → (nat_le 48 c && nat_le c 57) ≡ b → (nat_le 97 c && nat_le c 102) ≡ d → (b || d) ≡ true → P c
+lower_one : (P : ℕ → Type 0) → OfDigits P → (c : ℕ) → (b d : Bool) → (nat_le 48 c && nat_le c 57) ≡ b → (nat_le 97 c && nat_le c 102) ≡ d → (b || d) ≡ true
+    → P c
 lower_one P of c true d number letter h = let p = and_parts _ _ number in of.digit c (leb-true 48 c p.0) (leb-true c 57 p.1)
 lower_one P of c false d number letter h = let p = and_parts _ _ (letter ∙ h) in of.letter c (leb-true 97 c p.0) (leb-true c 102 p.1)
 

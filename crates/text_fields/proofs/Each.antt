@@ -29,7 +29,8 @@ pub each_more : {X : Type 0} (whole : List X → List ℕ) (i : ℕ) (items : Li
     → Puts a b (whole (take i items)) → Puts b c t → Puts a c (whole (take (i + 1) items))
 each_more whole i items x t a b c parts one within is put more =
     let text : whole (take (i + 1) items) ≡ whole (take i items) ++ t =
-    ap whole (take_more items i x within ∙ ap (λ y. take i items ++ y ∷ []) (sym is)) ∙ parts (take i items) (x ∷ []) ∙ ap (λ (s : List ℕ). whole (take i items) ++ s) one in
+    ap whole (take_more items i x within ∙ ap (λ y. take i items ++ y ∷ []) (sym is)) ∙ parts (take i items) (x ∷ []) ∙ ap
+    (λ (s : List ℕ). whole (take i items) ++ s) one in
     subst (Puts a c) (sym text) (puts_then a b c _ _ (Ok tt) put more)
 
 -- the sink failed at an item

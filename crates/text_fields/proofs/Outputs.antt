@@ -155,12 +155,18 @@ put_alone a b s r put = subst (λ (t : List ℕ). IsPut a b t r) (sym (append-ni
 pub streamed : (held held' : Option (List ℕ)) (faults faults' : ℕ) (ahead0 ahead text : List ℕ) (r : Result (Unit {0}) Failed) → ahead0 ≡ []
     → IsPut (output held faults ahead0) (output held' faults' ahead) (text ++ []) r → OnOk r (ahead ≡ []) → IsStreamed held held' faults faults' text r
 streamed held held' faults faults' ahead0 ahead text (Ok done) none put empty =
-    let whole : text ≡ put.gone = sym (append-nil text) ∙ ap (λ (before : List ℕ). before ++ (text ++ [])) (sym none) ∙ put.parts ∙ ap (λ (behind : List ℕ). put.gone ++ behind) empty ∙ append-nil put.gone in
+    let whole : text ≡ put.gone = sym (append-nil text) ∙ ap (λ (before : List ℕ). before ++ (text ++ [])) (sym none) ∙ put.parts ∙ ap
+    (λ (behind : List ℕ). put.gone ++ behind) empty ∙ append-nil put.gone in
     (subst (Appends held held') (sym whole) put.appended, put.later)
 streamed held held' faults faults' ahead0 ahead text (Err failed) none stop empty =
     let whole : text ≡ stop.gone ++ stop.missing = sym (append-nil text) ∙ ap (λ (before : List ℕ). before ++ (text ++ [])) (sym none) ∙ stop.parts in
-    let front : take (length stop.gone) text ≡ stop.gone = ap (take (length stop.gone)) whole ∙ take_at stop.gone stop.missing (length stop.gone) refl in
-    (length stop.gone, omega (arith, stop.lacks, length-append stop.gone stop.missing, ap length whole), subst (Appends held held') (sym front) stop.appended, stop.rose, stop.later)
+    let front : take (length stop.gone) text ≡ stop.gone = ap (take (length stop.gone)) whole ∙ take_at stop.gone stop.missing (length stop.gone) refl in (
+      length stop.gone,
+      omega (arith, stop.lacks, length-append stop.gone stop.missing, ap length whole),
+      subst (Appends held held') (sym front) stop.appended,
+      stop.rose,
+      stop.later,
+    )
 
 -- the same where the first bytes are known by another term
 pub word_then : (a b c : Output) (s s' t : List ℕ) (r : Result (Unit {0}) Failed) → s ≡ s' → Puts a b s → IsPut b c t r → IsPut a c (s' ++ t) r

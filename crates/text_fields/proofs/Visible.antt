@@ -92,7 +92,8 @@ plain_visible c plain = grind (arith, nat_tests)
 
 pub fields_visible : (c : ℕ) (texts : List (List ℕ)) → IsVisible c → AllByRecursion AreVisible texts → AreVisible (fields c texts)
 fields_visible c [] seen all = All-nil IsVisible
-fields_visible c (text ∷ texts) seen all = All-append IsVisible (c ∷ text) (fields c texts) (All-cons IsVisible c text seen all.0) (fields_visible c texts seen all.1)
+fields_visible c (text ∷ texts) seen all = All-append IsVisible (c ∷ text) (fields c texts) (All-cons IsVisible c text seen all.0)
+    (fields_visible c texts seen all.1)
 
 no_space : (text : List ℕ) → AreVisible text → HasNone 32 text
 no_space text seen = All-weaker IsVisible (λ byte. eqb byte 32 ≡ false) (λ byte low. ne_eqb byte 32 (λ same. omega arith)) text seen
@@ -102,20 +103,24 @@ no_spaces [] seen = tt
 no_spaces (text ∷ texts) seen = (no_space text seen.0, no_spaces texts seen.1)
 
 -- visible texts are parted at the spaces between them
-pub split-visible : (word : List ℕ) (texts : List (List ℕ)) → AreVisible word → AllByRecursion AreVisible texts → split 32 (joined 32 (word ∷ texts)) ≡ word ∷ texts
+pub split-visible : (word : List ℕ) (texts : List (List ℕ)) → AreVisible word → AllByRecursion AreVisible texts → split 32 (joined 32 (word ∷ texts)) ≡ word
+    ∷ texts
 split-visible word texts seen all = split-joined 32 word texts (no_space word seen) (no_spaces texts all)
 
 abbrev pub has_feed : List ℕ → Bool
 has_feed text = list_any (λ byte. byte == 10) text
 
 no_feed : (text : List ℕ) → AreVisible text → has_feed text ≡ false
-no_feed text seen = list_any_none (λ byte. byte == 10) text (All-weaker IsVisible (λ byte. (byte == 10) ≡ false) (λ byte low. ne_eqb byte 10 (λ same. omega arith)) text seen)
+no_feed text seen = list_any_none (λ byte. byte == 10) text (All-weaker IsVisible (λ byte. (byte == 10) ≡ false)
+    (λ byte low. ne_eqb byte 10 (λ same. omega arith)) text seen)
 
 no_feeds : (texts : List (List ℕ)) → AllByRecursion AreVisible texts → has_feed (fields 32 texts) ≡ false
 no_feeds [] seen = refl
 no_feeds (text ∷ texts) seen =
-    list_any-append (λ byte. byte == 10) (32 ∷ text) (fields 32 texts) ∙ or_from (has_feed (32 ∷ text)) (has_feed (fields 32 texts)) (no_feed text seen.0) (no_feeds texts seen.1)
+    list_any-append (λ byte. byte == 10) (32 ∷ text) (fields 32 texts) ∙ or_from (has_feed (32 ∷ text)) (has_feed (fields 32 texts)) (no_feed text seen.0)
+    (no_feeds texts seen.1)
 
 -- visible texts with spaces between them have no line feed
 pub feedless : (word : List ℕ) (texts : List (List ℕ)) → AreVisible word → AllByRecursion AreVisible texts → has_feed (joined 32 (word ∷ texts)) ≡ false
-feedless word texts seen all = list_any-append (λ byte. byte == 10) word (fields 32 texts) ∙ or_from (has_feed word) (has_feed (fields 32 texts)) (no_feed word seen) (no_feeds texts all)
+feedless word texts seen all = list_any-append (λ byte. byte == 10) word (fields 32 texts) ∙ or_from (has_feed word) (has_feed (fields 32 texts))
+    (no_feed word seen) (no_feeds texts all)

@@ -12,7 +12,9 @@ use Rattle.text_fields.specs.Status.{status_word, is_told, is_broken, is_end, sw
 use Rattle.text_fields.specs.declared.line_fault.LineFault.{LineFault}
 use Rattle.text_fields.specs.declared.line_fault.LineFault.TheVariants as faults
 
--- what a field holds: a number of 32 bits, one of 64 bits, one of 64 bits that isn't 0, a length, a place in a blob, a blob's name, an origin, a file's name, a URL's text, bytes, or a content type; and in answers alone: bytes that are some, the word of a broken status, of one with which a reader ends, of any status, or a switch
+-- what a field holds: a number of 32 bits, one of 64 bits, one of 64 bits that isn't 0, a length, a place in a blob, a blob's name, an origin, a file's name, a
+-- URL's text, bytes, or a content type; and in answers alone: bytes that are some, the word of a broken status, of one with which a reader ends, of any status,
+-- or a switch
 pub data Kind : Type 0 where
   number_32 : Kind
   number_64 : Kind

@@ -39,11 +39,13 @@ IsPut old new bytes (Err failed) = Stops old new bytes
 -- what a call that writes a text says by its answer: all of it was appended, or a front that lacks some byte, and the count rose
 abbrev pub IsStreamed : Option (List ℕ) → Option (List ℕ) → ℕ → ℕ → List ℕ → Result (Unit {0}) Failed → Type 0
 IsStreamed held held' faults faults' text (Ok done) = Appends held held' text × (faults ≤ faults')
-IsStreamed held held' faults faults' text (Err failed) = (n : ℕ) × (n < length text) × Appends held held' (take n text) × Rose faults faults' × (faults ≤ faults')
+IsStreamed held held' faults faults' text (Err failed) = (n : ℕ) × (n < length text) × Appends held held' (take n text) × Rose faults faults'
+    × (faults ≤ faults')
 
 -- the same of a call that is given a sink and a buffer: as they were, and as it left them
 abbrev pub IsPutTo : {K : Type 0} → Sink K → K → K → List ℕ → List ℕ → List ℕ → Result (Unit {0}) Failed → Type 0
-IsPutTo sink out out' ahead ahead' bytes result = IsPut (output (sink.held out) (sink.faults out) ahead) (output (sink.held out') (sink.faults out') ahead') bytes result
+IsPutTo sink out out' ahead ahead' bytes result = IsPut (output (sink.held out) (sink.faults out) ahead) (output (sink.held out') (sink.faults out') ahead')
+    bytes result
 
 -- the same of a call that is given the sink alone
 abbrev pub IsStreamedTo : {K : Type 0} → Sink K → K → K → List ℕ → Result (Unit {0}) Failed → Type 0

@@ -72,7 +72,8 @@ cut_length size from len = length-map-range_with_len _ 0 (div_ceil len size)
 pub pieces_length : (page : ℕ) (parts : List ℕ) (from : ℕ) → length (piece_spans page from parts) ≡ piece_count page parts
 pieces_length page [] from = refl
 pieces_length page (len ∷ parts) from =
-    length-append (cut_spans page from len) (piece_spans page (from + len) parts) ∙ omega (arith, cut_length page from len, pieces_length page parts (from + len), sum_by-cons (λ (n : ℕ). div_ceil n page) len parts)
+    length-append (cut_spans page from len) (piece_spans page (from + len) parts) ∙ omega
+    (arith, cut_length page from len, pieces_length page parts (from + len), sum_by-cons (λ (n : ℕ). div_ceil n page) len parts)
 
 pub cut_at : (size from len k : ℕ) → k < div_ceil len size → get_or (cut_spans size from len) k (0, 0) ≡ (from + k * size, min size (len - k * size))
 cut_at size from len k within = get_or-map-range_with_len _ 0 (div_ceil len size) k k (0, 0) within (omega arith)
@@ -101,19 +102,23 @@ pub piece_here : (page from left i : ℕ) (parts : List ℕ) → i < length part
     → get_or (piece_spans page from (drop i parts)) left (0, 0) ≡ (from + left * page, min page (get_or parts i 0 - left * page))
 piece_here page from left i parts inside within =
     let here : left < length (cut_spans page from (get_or parts i 0)) = rw (cut_length page from (get_or parts i 0)) within in
-    rw (drop_more parts i 0 inside) (get_or_append_left (cut_spans page from (get_or parts i 0)) _ (0, 0) left here ∙ cut_at page from (get_or parts i 0) left within)
+    rw (drop_more parts i 0 inside) (get_or_append_left (cut_spans page from (get_or parts i 0)) _ (0, 0) left here ∙ cut_at page from (get_or parts i 0) left
+    within)
 
 pub piece_behind : (page from left i : ℕ) (parts : List ℕ) → i < length parts → div_ceil (get_or parts i 0) page ≤ left
     → get_or (piece_spans page from (drop i parts)) left (0, 0)
     ≡ get_or (piece_spans page (from + get_or parts i 0) (drop (i + 1) parts)) (left - div_ceil (get_or parts i 0) page) (0, 0)
 piece_behind page from left i parts inside behind =
-    rw (drop_more parts i 0 inside) (get_or-append_right (cut_spans page from (get_or parts i 0)) _ (div_ceil (get_or parts i 0) page) left (0, 0) (cut_length page from (get_or parts i 0)) behind)
+    rw (drop_more parts i 0 inside) (get_or-append_right (cut_spans page from (get_or parts i 0)) _ (div_ceil (get_or parts i 0) page) left (0, 0)
+    (cut_length page from (get_or parts i 0)) behind)
 
-pub count_left : (page i : ℕ) (parts : List ℕ) → i < length parts → piece_count page (drop i parts) ≡ div_ceil (get_or parts i 0) page + piece_count page (drop (i + 1) parts)
+pub count_left : (page i : ℕ) (parts : List ℕ) → i < length parts → piece_count page (drop i parts) ≡ div_ceil (get_or parts i 0) page + piece_count page
+    (drop (i + 1) parts)
 count_left page i parts inside = sum_by-drop_more (λ (n : ℕ). div_ceil n page) parts i 0 inside
 
 pub sum_so_far : (i : ℕ) (parts : List ℕ) → i < length parts → sum (take i parts) + get_or parts i 0 ≤ sum parts
 sum_so_far i parts inside = sum_by_more_le (λ (n : ℕ). n) parts i 0 inside
 
-pub count_so_far : (page i : ℕ) (parts : List ℕ) → i < length parts → piece_count page (take i parts) + div_ceil (get_or parts i 0) page ≤ piece_count page parts
+pub count_so_far : (page i : ℕ) (parts : List ℕ) → i < length parts → piece_count page (take i parts) + div_ceil (get_or parts i 0) page ≤ piece_count page
+    parts
 count_so_far page i parts inside = sum_by_more_le (λ (n : ℕ). div_ceil n page) parts i 0 inside

@@ -18,7 +18,8 @@ has_file_room input = input.paging && nat_le (input.disk_used + own_bytes input)
 -- the own bytes all stand in the line, are few enough, nobody waits, and memory has room for them
 abbrev pub fits_inline : PlanInput → Bool
 fits_inline input =
-    (input.asked == 0) && nat_le (own_bytes input) input.limits.inline_max && not input.waiting && nat_le (input.memory_used + own_bytes input) input.limits.memory
+    (input.asked == 0) && nat_le (own_bytes input) input.limits.inline_max && not input.waiting && nat_le (input.memory_used + own_bytes input)
+    input.limits.memory
 
 -- a file plan has a segment for each piece, and a session so many at most
 abbrev pub file_plan : ℕ → Plan

@@ -32,18 +32,22 @@ on_success (Ok value) is holds = holds
 on_success (Err fault) is holds = absurd (cc)
 
 -- a URL that comes
-pub agree_inserted : (urls : Urls) (owners later : Owners) (text : List ℕ) (url : Url) → IsStrictlySortedBy (slice_cmp nat_cmp) (keys_of urls) → url_at text urls ≡ None → Agree urls owners
-    → ((other : ℕ) → texts_at other later ≡ cond (nat_eq other url.owner.0) (insert_key (slice_cmp nat_cmp) (texts_at other owners) text) (texts_at other owners))
+pub agree_inserted : (urls : Urls) (owners later : Owners) (text : List ℕ) (url : Url) → IsStrictlySortedBy (slice_cmp nat_cmp) (keys_of urls)
+    → url_at text urls ≡ None → Agree urls owners
+    → ((other : ℕ) → texts_at other later ≡ cond (nat_eq other url.owner.0) (insert_key (slice_cmp nat_cmp) (texts_at other owners) text)
+    (texts_at other owners))
     → Agree (with_url text url urls) later
 agree_inserted urls owners later text url sorted none agree is = λ other.
-    is other ∙ ap (λ texts. cond (nat_eq other url.owner.0) (insert_key (slice_cmp nat_cmp) texts text) texts) (agree other) ∙ sym (owned_inserted text url urls sorted none other)
+    is other ∙ ap (λ texts. cond (nat_eq other url.owner.0) (insert_key (slice_cmp nat_cmp) texts text) texts) (agree other) ∙ sym
+    (owned_inserted text url urls sorted none other)
 
 -- a URL that goes
 pub agree_removed : (urls : Urls) (owners later : Owners) (text : List ℕ) (url : Url) → url_at text urls ≡ Some url → Agree urls owners
     → ((other : ℕ) → texts_at other later ≡ cond (nat_eq other url.owner.0) (remove_key (bytes_eq text) (texts_at other owners)) (texts_at other owners))
     → Agree (without text urls) later
 agree_removed urls owners later text url there agree is = λ other.
-    is other ∙ ap (λ texts. cond (nat_eq other url.owner.0) (remove_key (bytes_eq text) texts) texts) (agree other) ∙ sym (owned_removed text url urls there other)
+    is other ∙ ap (λ texts. cond (nat_eq other url.owner.0) (remove_key (bytes_eq text) texts) texts) (agree other) ∙ sym
+    (owned_removed text url urls there other)
 
 -- a text that is nobody's goes without a trace
 pub without_absent : (text : List ℕ) (urls : Urls) → url_at text urls ≡ None → without text urls ≡ urls
@@ -54,7 +58,8 @@ without_absent text (entry ∷ urls) none = (elim (bytes_eq text entry.0) as (λ
 ]) refl
 
 -- a URL that is an owner's has that owner
-pub same_owner : (owner : ℕ) (text : List ℕ) (urls : Urls) (url : Url) → own_url owner text urls ≡ url_at text urls → url_at text urls ≡ Some url → owner ≡ url.owner.0
+pub same_owner : (owner : ℕ) (text : List ℕ) (urls : Urls) (url : Url) → own_url owner text urls ≡ url_at text urls → url_at text urls ≡ Some url → owner
+    ≡ url.owner.0
 same_owner owner text urls url own there = by (nat_eq owner url.owner.0) refl (rw there at own)
   where
     by : (r : Bool) → nat_eq owner url.owner.0 ≡ r → cond r (Some url) None ≡ Some url → owner ≡ url.owner.0
@@ -62,7 +67,8 @@ same_owner owner text urls url own there = by (nat_eq owner url.owner.0) refl (r
     by false is same = absurd (cc)
 
 -- an owner's first URL goes
-pub agree_popped : (urls : Urls) (owners later : Owners) (owner : ℕ) (text : List ℕ) → IsFirst owner text urls → slice_get (texts_of owner urls) 0 ≡ Some text → Agree urls owners
+pub agree_popped : (urls : Urls) (owners later : Owners) (owner : ℕ) (text : List ℕ) → IsFirst owner text urls → slice_get (texts_of owner urls) 0 ≡ Some text
+    → Agree urls owners
     → ((other : ℕ) → texts_at other later ≡ cond (nat_eq other owner) (drop 1 (texts_at other owners)) (texts_at other owners))
     → Agree (without text urls) later
 agree_popped urls owners later owner text first least agree is = λ other.
@@ -70,7 +76,8 @@ agree_popped urls owners later owner text first least agree is = λ other.
     ∙ ap (λ one. cond (nat_eq other one) (remove_key (bytes_eq text) (texts_of other urls)) (texts_of other urls)) (eqb-true owner first.url.owner.0 first.own)
     ∙ sym (owned_removed text first.url urls first.there other)
   where
-    by : (other : ℕ) (r : Bool) → nat_eq other owner ≡ r → cond r (drop 1 (texts_of other urls)) (texts_of other urls) ≡ cond r (remove_key (bytes_eq text) (texts_of other urls)) (texts_of other urls)
+    by : (other : ℕ) (r : Bool) → nat_eq other owner ≡ r → cond r (drop 1 (texts_of other urls)) (texts_of other urls)
+        ≡ cond r (remove_key (bytes_eq text) (texts_of other urls)) (texts_of other urls)
     by other false is = refl
     by other true is =
         let same : other ≡ owner = eqb-true other owner is in

@@ -28,7 +28,8 @@ texts_of owner urls = keys_of (owned_by owner urls)
 abbrev order : List ℕ → List ℕ → Ordering
 order = slice_cmp nat_cmp
 
-pub texts_cons : (owner : ℕ) (entry : List ℕ × Url) (urls : Urls) → texts_of owner (entry ∷ urls) ≡ cond (nat_eq owner entry.1.owner.0) (entry.0 ∷ texts_of owner urls) (texts_of owner urls)
+pub texts_cons : (owner : ℕ) (entry : List ℕ × Url) (urls : Urls) → texts_of owner (entry ∷ urls) ≡ cond (nat_eq owner entry.1.owner.0)
+    (entry.0 ∷ texts_of owner urls) (texts_of owner urls)
 texts_cons owner entry urls = by (nat_eq owner entry.1.owner.0)
   where
     by : (b : Bool) → keys_of (cond b (entry ∷ owned_by owner urls) (owned_by owner urls)) ≡ cond b (entry.0 ∷ texts_of owner urls) (texts_of owner urls)
@@ -48,16 +49,20 @@ same_order (byte ∷ text) = rw same_number (same_order text)
 pub same_bytes : (text : List ℕ) → bytes_eq text text ≡ true
 same_bytes text = eq_of text text Equal (same_order text)
 
-all_above : (low high : List ℕ) (texts : List (List ℕ)) → order low high ≡ Less → AllByRecursion (λ text. order high text ≡ Less) texts → AllByRecursion (λ text. order low text ≡ Less) texts
+all_above : (low high : List ℕ) (texts : List (List ℕ)) → order low high ≡ Less → AllByRecursion (λ text. order high text ≡ Less) texts
+    → AllByRecursion (λ text. order low text ≡ Less) texts
 all_above low high [] below all = tt
 all_above low high (text ∷ texts) below all = (nat_list_cmp_total.trans low high text below all.0, all_above low high texts below all.1)
 
-owned_above : (low : List ℕ) (owner : ℕ) (urls : Urls) → AllByRecursion (λ text. order low text ≡ Less) (keys_of urls) → AllByRecursion (λ text. order low text ≡ Less) (texts_of owner urls)
+owned_above : (low : List ℕ) (owner : ℕ) (urls : Urls) → AllByRecursion (λ text. order low text ≡ Less) (keys_of urls)
+    → AllByRecursion (λ text. order low text ≡ Less) (texts_of owner urls)
 owned_above low owner [] all = tt
 owned_above low owner (entry ∷ urls) all =
-    subst (AllByRecursion (λ text. order low text ≡ Less)) (sym (texts_cons owner entry urls)) (by (nat_eq owner entry.1.owner.0) (owned_above low owner urls all.1))
+    subst (AllByRecursion (λ text. order low text ≡ Less)) (sym (texts_cons owner entry urls))
+    (by (nat_eq owner entry.1.owner.0) (owned_above low owner urls all.1))
   where
-    by : (b : Bool) → AllByRecursion (λ text. order low text ≡ Less) (texts_of owner urls) → AllByRecursion (λ text. order low text ≡ Less) (cond b (entry.0 ∷ texts_of owner urls) (texts_of owner urls))
+    by : (b : Bool) → AllByRecursion (λ text. order low text ≡ Less) (texts_of owner urls) → AllByRecursion (λ text. order low text ≡ Less)
+        (cond b (entry.0 ∷ texts_of owner urls) (texts_of owner urls))
     by true rest = (all.0, rest)
     by false rest = rest
 
@@ -73,15 +78,19 @@ owned_inserted text url (entry ∷ urls) sorted none owner =
     by (λ absent. owned_inserted text url urls (sorted_tail order entry.0 (keys_of urls) sorted) absent owner) (order text entry.0) refl
   where
     more : (mine new : Bool) → order text entry.0 ≡ Greater
-        → cond mine (entry.0 ∷ cond new (insert_key order (texts_of owner urls) text) (texts_of owner urls)) (cond new (insert_key order (texts_of owner urls) text) (texts_of owner urls))
-        ≡ cond new (insert_key order (cond mine (entry.0 ∷ texts_of owner urls) (texts_of owner urls)) text) (cond mine (entry.0 ∷ texts_of owner urls) (texts_of owner urls))
+        → cond mine (entry.0 ∷ cond new (insert_key order (texts_of owner urls) text) (texts_of owner urls))
+        (cond new (insert_key order (texts_of owner urls) text) (texts_of owner urls))
+        ≡ cond new (insert_key order (cond mine (entry.0 ∷ texts_of owner urls) (texts_of owner urls)) text)
+        (cond mine (entry.0 ∷ texts_of owner urls) (texts_of owner urls))
     more true true is = rw is refl
     more true false is = refl
     more false true is = refl
     more false false is = refl
 
-    by : (url_at text urls ≡ None → texts_of owner (with_url text url urls) ≡ cond (nat_eq owner url.owner.0) (insert_key order (texts_of owner urls) text) (texts_of owner urls))
-        → (r : Ordering) → order text entry.0 ≡ r → texts_of owner (match_ordering r ((text, url) ∷ entry ∷ urls) ((entry.0, url) ∷ urls) (entry ∷ with_url text url urls))
+    by : (url_at text urls ≡ None → texts_of owner (with_url text url urls) ≡ cond (nat_eq owner url.owner.0) (insert_key order (texts_of owner urls) text)
+        (texts_of owner urls))
+        → (r : Ordering) → order text entry.0 ≡ r → texts_of owner
+        (match_ordering r ((text, url) ∷ entry ∷ urls) ((entry.0, url) ∷ urls) (entry ∷ with_url text url urls))
         ≡ cond (nat_eq owner url.owner.0) (insert_key order (texts_of owner (entry ∷ urls)) text) (texts_of owner (entry ∷ urls))
     by rest Less is =
         let above = all_above text entry.0 (keys_of urls) is (sorted_head order entry.0 (keys_of urls) sorted) in
@@ -103,19 +112,23 @@ owned_removed text url [] found owner = cc
 owned_removed text url (entry ∷ urls) found owner = by (λ there. owned_removed text url urls there owner) (bytes_eq text entry.0) refl
   where
     here : (new : Bool) → bytes_eq text entry.0 ≡ true
-        → texts_of owner urls ≡ cond new (remove_key (bytes_eq text) (cond new (entry.0 ∷ texts_of owner urls) (texts_of owner urls))) (cond new (entry.0 ∷ texts_of owner urls) (texts_of owner urls))
+        → texts_of owner urls ≡ cond new (remove_key (bytes_eq text) (cond new (entry.0 ∷ texts_of owner urls) (texts_of owner urls)))
+        (cond new (entry.0 ∷ texts_of owner urls) (texts_of owner urls))
     here true is = rw is refl
     here false is = refl
 
     more : (mine new : Bool) → bytes_eq text entry.0 ≡ false
-        → cond mine (entry.0 ∷ cond new (remove_key (bytes_eq text) (texts_of owner urls)) (texts_of owner urls)) (cond new (remove_key (bytes_eq text) (texts_of owner urls)) (texts_of owner urls))
-        ≡ cond new (remove_key (bytes_eq text) (cond mine (entry.0 ∷ texts_of owner urls) (texts_of owner urls))) (cond mine (entry.0 ∷ texts_of owner urls) (texts_of owner urls))
+        → cond mine (entry.0 ∷ cond new (remove_key (bytes_eq text) (texts_of owner urls)) (texts_of owner urls))
+        (cond new (remove_key (bytes_eq text) (texts_of owner urls)) (texts_of owner urls))
+        ≡ cond new (remove_key (bytes_eq text) (cond mine (entry.0 ∷ texts_of owner urls) (texts_of owner urls)))
+        (cond mine (entry.0 ∷ texts_of owner urls) (texts_of owner urls))
     more true true is = rw is refl
     more true false is = refl
     more false true is = refl
     more false false is = refl
 
-    by : (url_at text urls ≡ Some url → texts_of owner (without text urls) ≡ cond (nat_eq owner url.owner.0) (remove_key (bytes_eq text) (texts_of owner urls)) (texts_of owner urls))
+    by : (url_at text urls ≡ Some url → texts_of owner (without text urls) ≡ cond (nat_eq owner url.owner.0) (remove_key (bytes_eq text) (texts_of owner urls))
+        (texts_of owner urls))
         → (r : Bool) → bytes_eq text entry.0 ≡ r → texts_of owner (cond r urls (entry ∷ without text urls))
         ≡ cond (nat_eq owner url.owner.0) (remove_key (bytes_eq text) (texts_of owner (entry ∷ urls))) (texts_of owner (entry ∷ urls))
     by rest true is =
@@ -136,7 +149,8 @@ pub removed_inserted : (text : List ℕ) (url : Url) (urls : Urls) → url_at te
 removed_inserted text url [] none = rw (same_bytes text) refl
 removed_inserted text url (entry ∷ urls) none = by (λ absent. removed_inserted text url urls absent) (order text entry.0) refl
   where
-    by : (url_at text urls ≡ None → without text (with_url text url urls) ≡ urls) → (r : Ordering) → order text entry.0 ≡ r → without text (match_ordering r ((text, url) ∷ entry ∷ urls) ((entry.0, url) ∷ urls) (entry ∷ with_url text url urls)) ≡ entry ∷ urls
+    by : (url_at text urls ≡ None → without text (with_url text url urls) ≡ urls) → (r : Ordering) → order text entry.0 ≡ r
+        → without text (match_ordering r ((text, url) ∷ entry ∷ urls) ((entry.0, url) ∷ urls) (entry ∷ with_url text url urls)) ≡ entry ∷ urls
     by rest Less is = rw (same_bytes text) refl
     by rest Equal is = let found = rw (eq_of text entry.0 Equal is) at none in cc
     by rest Greater is =
@@ -156,10 +170,12 @@ none_below text [] all = refl
 none_below text (entry ∷ urls) all = rw (eq_of text entry.0 Less all.0) (none_below text urls all.1)
 
 -- the first text of an owner is that of its first URL
-pub first_owned : (owner : ℕ) (text : List ℕ) (urls : Urls) → IsStrictlySortedBy order (keys_of urls) → slice_get (texts_of owner urls) 0 ≡ Some text → IsFirst owner text urls
+pub first_owned : (owner : ℕ) (text : List ℕ) (urls : Urls) → IsStrictlySortedBy order (keys_of urls) → slice_get (texts_of owner urls) 0 ≡ Some text
+    → IsFirst owner text urls
 first_owned owner text [] sorted is = cc
 first_owned owner text (entry ∷ urls) sorted is =
-    by (λ rest. first_owned owner text urls (sorted_tail order entry.0 (keys_of urls) sorted) rest) (nat_eq owner entry.1.owner.0) refl (subst (λ texts. slice_get texts 0 ≡ Some text) (texts_cons owner entry urls) is)
+    by (λ rest. first_owned owner text urls (sorted_tail order entry.0 (keys_of urls) sorted) rest) (nat_eq owner entry.1.owner.0) refl
+    (subst (λ texts. slice_get texts 0 ≡ Some text) (texts_cons owner entry urls) is)
   where
     apart : (r : Bool) → bytes_eq text entry.0 ≡ r → (url : Url) → url_at text urls ≡ Some url → bytes_eq text entry.0 ≡ false
     apart false is url there = is
@@ -168,7 +184,8 @@ first_owned owner text (entry ∷ urls) sorted is =
         let none = none_below entry.0 urls (sorted_head order entry.0 (keys_of urls) sorted) in
         let none : url_at text urls ≡ None = subst (λ one. url_at one urls ≡ None) (sym same) none in cc
 
-    by : (slice_get (texts_of owner urls) 0 ≡ Some text → IsFirst owner text urls) → (mine : Bool) → nat_eq owner entry.1.owner.0 ≡ mine → slice_get (cond mine (entry.0 ∷ texts_of owner urls) (texts_of owner urls)) 0 ≡ Some text → IsFirst owner text (entry ∷ urls)
+    by : (slice_get (texts_of owner urls) 0 ≡ Some text → IsFirst owner text urls) → (mine : Bool) → nat_eq owner entry.1.owner.0 ≡ mine
+        → slice_get (cond mine (entry.0 ∷ texts_of owner urls) (texts_of owner urls)) 0 ≡ Some text → IsFirst owner text (entry ∷ urls)
     by rest true mine is =
         let same : entry.0 ≡ text = cc in
         record {

@@ -1,4 +1,5 @@
--- The blob URLs of a session by their texts, in the order of the texts. After the File API (a blob URL, its store, and how it is resolved without its fragment); own: URLs are compared as texts, and the environment of a URL is a renderer.
+-- The blob URLs of a session by their texts, in the order of the texts. After the File API (a blob URL, its store, and how it is resolved without its
+-- fragment); own: URLs are compared as texts, and the environment of a URL is a renderer.
 use Rattle.std.specs.Prelude.{ℕ, ◌≡◌, ◌^◌, ◌<◌, ◌≤◌, ◌++◌, ◌==◌, List, if◌then◌else◌, codes, length, nat_eq, position, slice_get, take, Option, Some, None, IsSome, option_and_then}
 use Rattle.std.specs.Option.{option_map_or}
 use Rattle.std.specs.List.{filter}

@@ -10,7 +10,7 @@ use Rattle.blob_words.specs.declared.status.Status.{Status}
 use Rattle.session_script.specs.declared.event.Part.{Part}
 use Rattle.session_script.specs.declared.event.Part.TheVariants.{Embedded, Asked, FileRange, BlobRange, HandleRange}
 use Rattle.answer_text.specs.declared.group.Group.{Group}
-use Rattle.blob_model.specs.Session.{Session}
+use Rattle.blob_model.specs.Session.{Session, page_limit}
 use Rattle.blob_model.specs.History.{History, start, after, history_from}
 use Rattle.blob_model.specs.Parts.{part_length, parts_length, sources}
 use Rattle.blob_model.specs.Builds.{Cell, Build, builds, size, size_in, cells_in, cells_of, own_cells, file_cells, handle_cells, planned_cells, planned_size, plan_told, built, sent, filed, lent}
@@ -44,7 +44,8 @@ InCells list part = Unit {0}
 part_of : (list : List Cell) (off len : ℕ) → off + len ≤ length list → length (take len (drop off list)) ≡ len
 part_of list off len inside = simp (length-take, length-drop) (omega arith)
 
-cells_length : (list : List Build) (name from : ℕ) (parts : List Part) → AllByRecursion (InCells list) parts → length (cells_of list name from parts) ≡ parts_length parts
+cells_length : (list : List Build) (name from : ℕ) (parts : List Part) → AllByRecursion (InCells list) parts → length (cells_of list name from parts)
+    ≡ parts_length parts
 cells_length list name from [] inside = refl
 cells_length list name from (Embedded bytes ∷ parts) inside =
     length-append (own_cells name from (length bytes)) (cells_of list name (from + length bytes) parts)
@@ -73,7 +74,8 @@ none_applies [] e = tt
 none_applies {X = X} (case ∷ cases) e = go (case.0) refl (none_applies cases) e
   where
     go : (b : Bool) → case.0 ≡ b → (first_that cases ≡ None → AllByRecursion (λ (each : Bool × X). each.0 ≡ false) cases)
-        → (elim b as (λ (c : Bool). Option X) [ true ↦ Some (case.1) | false ↦ first_that cases ]) ≡ None → (case.0 ≡ false) × AllByRecursion (λ (each : Bool × X). each.0 ≡ false) cases
+        → (elim b as (λ (c : Bool). Option X) [ true ↦ Some (case.1) | false ↦ first_that cases ]) ≡ None → (case.0 ≡ false)
+        × AllByRecursion (λ (each : Bool × X). each.0 ≡ false) cases
     go true at rest f = cc
     go false at rest f = (at, rest f)
 
@@ -83,8 +85,9 @@ held_range true false late self e f = (or_parts self late f).1
 held_range true true late self e f = absurd (false_true (sym e))
 held_range false broken late self e f = absurd (false_true (sym e))
 
-in_cells : (s : Session) (h : History) (renderer name : ℕ) (parts : List Part) → Fit (builds s.limits.page h)
-    → list_any (is_invalid s h renderer name) parts ≡ false → list_any (is_lost_source h renderer) (sources parts) ≡ false → AllByRecursion (InCells (builds s.limits.page h)) parts
+in_cells : (s : Session) (h : History) (renderer name : ℕ) (parts : List Part) → Fit (builds (page_limit s) h)
+    → list_any (is_invalid s h renderer name) parts ≡ false → list_any (is_lost_source h renderer) (sources parts) ≡ false
+    → AllByRecursion (InCells (builds (page_limit s) h)) parts
 in_cells s h renderer name [] fit valid held = tt
 in_cells s h renderer name (Embedded bytes ∷ parts) fit valid held = (tt, in_cells s h renderer name parts fit valid held)
 in_cells s h renderer name (Asked len ∷ parts) fit valid held = (tt, in_cells s h renderer name parts fit valid held)
@@ -92,40 +95,45 @@ in_cells s h renderer name (FileRange file off len stamp ∷ parts) fit valid he
 in_cells s h renderer name (BlobRange b off len ∷ parts) fit valid held =
     let v = or_parts (is_invalid s h renderer name (BlobRange b off len)) (list_any (is_invalid s h renderer name) parts) valid in
     let d = or_parts (is_lost_source h renderer b) (list_any (is_lost_source h renderer) (sources parts)) held in
-    let inside : nat_lt (size_in (builds s.limits.page h) b) (off + len) ≡ false =
-    held_range (has_handle h renderer b) (is_broken h b) (nat_lt (size_in (builds s.limits.page h) b) (off + len)) (b == name) d.0 v.0 in
-    let below : off + len ≤ size_in (builds s.limits.page h) b = ltb-false (size_in (builds s.limits.page h) b) (off + len) inside in
-    let same : size_in (builds s.limits.page h) b ≡ length (cells_in (builds s.limits.page h) b) = fit_at (builds s.limits.page h) b fit in
+    let inside : nat_lt (size_in (builds (page_limit s) h) b) (off + len) ≡ false =
+    held_range (has_handle h renderer b) (is_broken h b) (nat_lt (size_in (builds (page_limit s) h) b) (off + len)) (b == name) d.0 v.0 in
+    let below : off + len ≤ size_in (builds (page_limit s) h) b = ltb-false (size_in (builds (page_limit s) h) b) (off + len) inside in
+    let same : size_in (builds (page_limit s) h) b ≡ length (cells_in (builds (page_limit s) h) b) = fit_at (builds (page_limit s) h) b fit in
     (omega (arith, below, same), in_cells s h renderer name parts fit v.1 d.1)
 in_cells s h renderer name (HandleRange k off len ∷ parts) fit valid held =
     let v = or_parts (is_invalid s h renderer name (HandleRange k off len)) (list_any (is_invalid s h renderer name) parts) valid in
     (tt, in_cells s h renderer name parts fit v.1 held)
 
-new_fits : (s : Session) (h : History) (renderer name : ℕ) (kind : List ℕ) (parts : List Part) → Fit (builds s.limits.page h)
-    → length (planned_cells (builds s.limits.page h) name parts (plan_told (build_answer s h renderer name parts))) ≡ planned_size (plan_told (build_answer s h renderer name parts)) parts
+new_fits : (s : Session) (h : History) (renderer name : ℕ) (kind : List ℕ) (parts : List Part) → Fit (builds (page_limit s) h)
+    → length (planned_cells (builds (page_limit s) h) name parts (plan_told (build_answer s h renderer name parts)))
+    ≡ planned_size (plan_told (build_answer s h renderer name parts)) parts
 new_fits s h renderer name kind parts fit = go (line_status s h renderer name parts) refl
   where
     go : (status : Option Status) → line_status s h renderer name parts ≡ status
-        → length (planned_cells (builds s.limits.page h) name parts (plan_told (build_answer_by s h name parts status))) ≡ planned_size (plan_told (build_answer_by s h name parts status)) parts
+        → length (planned_cells (builds (page_limit s) h) name parts (plan_told (build_answer_by s h name parts status)))
+        ≡ planned_size (plan_told (build_answer_by s h name parts status)) parts
     go (Some status) e = refl
     go None e =
         let tests = none_applies (line_tests s h renderer name parts) e in
         let valid = or_parts (list_any (is_invalid s h renderer name) parts) (nat_lt (2 ^ 62) (parts_length parts)) tests.0 in
-        cells_length (builds s.limits.page h) name 0 parts (in_cells s h renderer name parts fit valid.0 tests.1.0)
+        cells_length (builds (page_limit s) h) name 0 parts (in_cells s h renderer name parts fit valid.0 tests.1.0)
 
 fit_more : (list : List Build) (build : Build) → Fit list → length build.cells ≡ size build → Fit (list ++ build ∷ [])
 fit_more [] build fit one = (one, tt)
 fit_more (x ∷ list) build fit one = (fit.0, fit_more list build fit.1 one)
 
-pub fit_grows : (s : Session) (h : History) (later : List Build) → Grows s h (builds s.limits.page h) later → Fit (builds s.limits.page h) → Fit later
+pub fit_grows : (s : Session) (h : History) (later : List Build) → Grows s h (builds (page_limit s) h) later → Fit (builds (page_limit s) h) → Fit later
 fit_grows s h later by_none fit = fit
 fit_grows s h later (by_one renderer name kind parts) fit =
-    fit_more (builds s.limits.page h) (built s.limits.page (builds s.limits.page h) renderer name kind parts (plan_told (build_answer s h renderer name parts))) fit (new_fits s h renderer name kind parts fit)
+    fit_more (builds (page_limit s) h) (built (page_limit s) (builds (page_limit s) h) renderer name kind parts
+    (plan_told (build_answer s h renderer name parts))) fit (new_fits s h renderer name kind parts fit)
 
-pub fit_from : (s : Session) (h : History) (groups : List Group) → Fit (builds s.limits.page h) → IsLegalFrom s h groups → Fit (builds s.limits.page (history_from h groups))
+pub fit_from : (s : Session) (h : History) (groups : List Group) → Fit (builds (page_limit s) h) → IsLegalFrom s h groups
+    → Fit (builds (page_limit s) (history_from h groups))
 fit_from s h [] fit legal = fit
 fit_from s h (group ∷ groups) fit legal =
-    fit_from s (after h group.event group.answers) groups (fit_grows s h (builds s.limits.page (after h group.event group.answers)) (grows s h group legal.0) fit) legal.1
+    fit_from s (after h group.event group.answers) groups (fit_grows s h (builds (page_limit s) (after h group.event group.answers)) (grows s h group legal.0)
+    fit) legal.1
 
-pub cells_are_sizes : (s : Session) (groups : List Group) → IsLegalFrom s start groups → Fit (builds s.limits.page (history_from start groups))
+pub cells_are_sizes : (s : Session) (groups : List Group) → IsLegalFrom s start groups → Fit (builds (page_limit s) (history_from start groups))
 cells_are_sizes s groups legal = fit_from s start groups tt legal

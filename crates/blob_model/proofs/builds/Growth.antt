@@ -8,7 +8,7 @@ use Rattle.answer_text.specs.declared.answer.Answer.TheVariants as answers
 use Rattle.answer_text.specs.declared.refusal.Refusal.{Refusal}
 use Rattle.answer_text.specs.declared.group.Group.{Group}
 use Rattle.blob_words.specs.declared.status.Status.{Status}
-use Rattle.blob_model.specs.Session.{Session}
+use Rattle.blob_model.specs.Session.{Session, page_limit}
 use Rattle.blob_model.specs.History.{History, heard, said, heard_first, said_all, after}
 use Rattle.blob_model.specs.Builds.{Build, builds, built, builds_after, plan_told, slice_parts}
 use Rattle.blob_model.specs.Settle.{settle}
@@ -51,15 +51,17 @@ only_one own list (inr never) = absurd never
 pub data Grows (s : Session) (h : History) (before : List Build) : List Build → Type 0 where
   by_none : Grows s h before before
   by_one : (renderer name : ℕ) (kind : List ℕ) (parts : List Part)
-      → Grows s h before (before ++ built s.limits.page before renderer name kind parts (plan_told (build_answer s h renderer name parts)) ∷ [])
+      → Grows s h before (before ++ built (page_limit s) before renderer name kind parts (plan_told (build_answer s h renderer name parts)) ∷ [])
 
 -- the blobs after answers of which the first is known
-built_by : (s : Session) (h : History) (event : Event) (list own rest : List Answer) (one : Answer) → list ≡ own ++ rest → own ≡ one ∷ [] → builds s.limits.page (after h event list) ≡ builds s.limits.page (heard_first h event one)
+built_by : (s : Session) (h : History) (event : Event) (list own rest : List Answer) (one : Answer) → list ≡ own ++ rest → own ≡ one ∷ []
+    → builds (page_limit s) (after h event list) ≡ builds (page_limit s) (heard_first h event one)
 built_by s h event list own rest one e f =
     let whole : list ≡ one ∷ rest = e ∙ ap (λ (xs : List Answer). xs ++ rest) f in
-    ap (λ (xs : List Answer). builds s.limits.page (after h event xs)) whole ∙ builds-said s.limits.page (heard_first h event one) rest
+    ap (λ (xs : List Answer). builds (page_limit s) (after h event xs)) whole ∙ builds-said (page_limit s) (heard_first h event one) rest
 
-refused_first : (s : Session) (h : History) (event : Event) (why : Refusal) → builds s.limits.page (heard_first h event (answers.Refused why)) ≡ builds s.limits.page h
+refused_first : (s : Session) (h : History) (event : Event) (why : Refusal) → builds (page_limit s) (heard_first h event (answers.Refused why))
+    ≡ builds (page_limit s) h
 refused_first s h event why = refl
 
 pub planned_first : (s : Session) (h : History) (renderer name : ℕ) (event : Event) (parts : List Part) (status : Option Status)
@@ -69,28 +71,34 @@ planned_first s h renderer name event parts None = refl
 
 grown : (s : Session) (h : History) (event : Event) (list own rest : List Answer) (renderer name : ℕ) (kind : List ℕ) (parts : List Part)
     → IsOwn s h event own → list ≡ own ++ rest → (IsAccepted s h event own → own ≡ build_answer s h renderer name parts ∷ [])
-    → builds_after s.limits.page event (build_answer s h renderer name parts) (builds s.limits.page h)
-    ≡ builds s.limits.page h ++ built s.limits.page (builds s.limits.page h) renderer name kind parts (plan_told (build_answer s h renderer name parts)) ∷ []
-    → Grows s h (builds s.limits.page h) (builds s.limits.page (after h event list))
+    → builds_after (page_limit s) event (build_answer s h renderer name parts) (builds (page_limit s) h)
+    ≡ builds (page_limit s) h ++ built (page_limit s) (builds (page_limit s) h) renderer name kind parts (plan_told (build_answer s h renderer name parts)) ∷ []
+    → Grows s h (builds (page_limit s) h) (builds (page_limit s) (after h event list))
 grown s h event list own rest renderer name kind parts is_own whole accept adds =
     ⊎_elim
     (λ (e : own ≡ build_answer s h renderer name parts ∷ []).
     let path = built_by s h event list own rest (build_answer s h renderer name parts) whole e in
     let first = planned_first s h renderer name event parts (line_status s h renderer name parts) in
-    subst (λ (later : List Build). Grows s h (builds s.limits.page h) later) (sym (path ∙ ap (builds s.limits.page) first ∙ adds)) (by_one renderer name kind parts))
+    subst (λ (later : List Build). Grows s h (builds (page_limit s) h) later) (sym (path ∙ ap (builds (page_limit s)) first ∙ adds))
+    (by_one renderer name kind parts))
     (λ (r : (why : Refusal) × (own ≡ answers.Refused why ∷ [])).
     let path = built_by s h event list own rest (answers.Refused r.0) whole r.1 in
-    subst (λ (later : List Build). Grows s h (builds s.limits.page h) later) (sym path) by_none)
+    subst (λ (later : List Build). Grows s h (builds (page_limit s) h) later) (sym path) by_none)
     (first_by s h event own (build_answer s h renderer name parts) (refusal s h event) accept is_own)
 
-grows_by : (s : Session) (h : History) (event : Event) (list own rest : List Answer) → IsOwn s h event own → list ≡ own ++ rest → Grows s h (builds s.limits.page h) (builds s.limits.page (after h event list))
+grows_by : (s : Session) (h : History) (event : Event) (list own rest : List Answer) → IsOwn s h event own → list ≡ own ++ rest
+    → Grows s h (builds (page_limit s) h) (builds (page_limit s) (after h event list))
 grows_by s h (events.Build renderer name kind parts) list own rest is_own whole =
-    grown s h (events.Build renderer name kind parts) list own rest renderer.0 name kind parts is_own whole (only_one own (build_answer s h renderer.0 name parts ∷ [])) refl
+    grown s h (events.Build renderer name kind parts) list own rest renderer.0 name kind parts is_own whole
+    (only_one own (build_answer s h renderer.0 name parts ∷ [])) refl
 grows_by s h (events.Slice renderer name source from to kind) list own rest is_own whole =
-    let parts = slice_parts (builds s.limits.page h) source from to in
-    grown s h (events.Slice renderer name source from to kind) list own rest renderer.0 name kind parts is_own whole (only_one own (build_answer s h renderer.0 name parts ∷ [])) refl
+    let parts = slice_parts (builds (page_limit s) h) source from to in
+    grown s h (events.Slice renderer name source from to kind) list own rest renderer.0 name kind parts is_own whole
+    (only_one own (build_answer s h renderer.0 name parts ∷ [])) refl
 grows_by s h event list own rest is_own whole =
-    subst (λ (later : List Build). Grows s h (builds s.limits.page h) later) (sym (builds-other s.limits.page h event list refl)) by_none
+    subst (λ (later : List Build). Grows s h (builds (page_limit s) h) later) (sym (builds-other (page_limit s) h event list refl)) by_none
 
-pub grows : (s : Session) (h : History) (group : Group) → IsLegalGroup s h group → Grows s h (builds s.limits.page h) (builds s.limits.page (after h group.event group.answers))
-grows s h group legal = grows_by s h group.event group.answers legal.own (settle s (left_files group.answers) (after h group.event legal.own)) legal.is_own legal.settles
+pub grows : (s : Session) (h : History) (group : Group) → IsLegalGroup s h group → Grows s h (builds (page_limit s) h)
+    (builds (page_limit s) (after h group.event group.answers))
+grows s h group legal = grows_by s h group.event group.answers legal.own (settle s (left_files group.answers) (after h group.event legal.own)) legal.is_own
+    legal.settles

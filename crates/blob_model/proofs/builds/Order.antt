@@ -10,9 +10,13 @@ use Rattle.blob_model.proofs.Lists.{any_append_first, any_append_second, false_t
 use Rattle.blob_model.proofs.live.Least.{named}
 
 pub ordered_more : (earlier rest : List Build) (build : Build) → AreOrdered earlier rest → named build.name (earlier ++ rest) ≡ false
-    → ((source : ℕ) → is_some build.plan ≡ true → has_source build source ≡ true → named source (earlier ++ rest) ≡ true) → AreOrdered earlier (rest ++ build ∷ [])
-ordered_more earlier [] build ordered fresh older =
-    (subst (λ (list : List Build). named build.name list ≡ false) (append-nil earlier) fresh, (λ source planned has. subst (λ (list : List Build). named source list ≡ true) (append-nil earlier) (older source planned has)), tt)
+    → ((source : ℕ) → is_some build.plan ≡ true → has_source build source ≡ true → named source (earlier ++ rest) ≡ true)
+    → AreOrdered earlier (rest ++ build ∷ [])
+ordered_more earlier [] build ordered fresh older = (
+  subst (λ (list : List Build). named build.name list ≡ false) (append-nil earlier) fresh,
+  (λ source planned has. subst (λ (list : List Build). named source list ≡ true) (append-nil earlier) (older source planned has)),
+  tt,
+)
 ordered_more earlier (first ∷ rest) build ordered fresh older =
     let moved : (earlier ++ first ∷ []) ++ rest ≡ earlier ++ (first ∷ rest) = append_assoc earlier (first ∷ []) rest in (
       ordered.0,
@@ -25,7 +29,8 @@ ordered_more earlier (first ∷ rest) build ordered fresh older =
 pub not_later : (name : ℕ) (earlier rest : List Build) → AreOrdered earlier rest → named name earlier ≡ true → named name rest ≡ false
 not_later name earlier [] ordered old = refl
 not_later name earlier (build ∷ rest) ordered old =
-    let later : named name rest ≡ false = not_later name (earlier ++ build ∷ []) rest ordered.2 (any_append_first (λ (each : Build). each.name == name) earlier (build ∷ []) old) in
+    let later : named name rest ≡ false = not_later name (earlier ++ build ∷ []) rest ordered.2
+    (any_append_first (λ (each : Build). each.name == name) earlier (build ∷ []) old) in
     go (build.name == name) refl later
   where
     go : (b : Bool) → (build.name == name) ≡ b → named name rest ≡ false → (b || named name rest) ≡ false
@@ -39,7 +44,8 @@ not_later name earlier (build ∷ rest) ordered old =
 pub self_not_later : (build : Build) (earlier rest : List Build) → AreOrdered earlier (build ∷ rest) → named build.name rest ≡ false
 self_not_later build earlier rest ordered =
     not_later build.name (earlier ++ build ∷ []) rest ordered.2
-    (any_append_second (λ (each : Build). each.name == build.name) earlier (build ∷ []) (or_first (build.name == build.name) false (eq-eqb build.name build.name refl)))
+    (any_append_second (λ (each : Build). each.name == build.name) earlier (build ∷ [])
+    (or_first (build.name == build.name) false (eq-eqb build.name build.name refl)))
 
 pub ordered_distinct : (earlier rest : List Build) → AreOrdered earlier rest → Distinct rest
 ordered_distinct earlier [] ordered = tt
@@ -51,7 +57,8 @@ named_filter name test (build ∷ list) e =
     let parts = or_parts (build.name == name) (named name list) e in
     go (test build) (named_filter name test list parts.1) parts.0
   where
-    go : (b : Bool) → named name (filter test list) ≡ false → (build.name == name) ≡ false → named name (cond b (build ∷ filter test list) (filter test list)) ≡ false
+    go : (b : Bool) → named name (filter test list) ≡ false → (build.name == name) ≡ false → named name (cond b (build ∷ filter test list) (filter test list))
+        ≡ false
     go true rest head = rw (head, rest) refl
     go false rest head = rest
 
@@ -67,7 +74,8 @@ distinct_filter test (build ∷ list) d = go (test build) (distinct_filter test 
 found_head : (build : Build) (rest : List Build) → build_in (build ∷ rest) build.name ≡ Some build
 found_head build rest = rw (eq-eqb build.name build.name refl) refl
 
-pub all_found : (whole rest : List Build) → Distinct rest → ((build : Build) → named build.name rest ≡ true → build_in whole build.name ≡ build_in rest build.name)
+pub all_found : (whole rest : List Build) → Distinct rest → ((build : Build) → named build.name rest ≡ true → build_in whole build.name
+    ≡ build_in rest build.name)
     → AllByRecursion (λ (build : Build). build_in whole build.name ≡ Some build) rest
 all_found whole [] d same = tt
 all_found whole (build ∷ rest) d same = (

@@ -28,17 +28,20 @@ renderers-line : (h : History) (event : Event) (answer : Answer) → by_event is
 renderers-line h (events.Spawn renderer origin) answer e = absurd (true_false e)
 renderers-line h event answer e = refl
 
-deaths-line : (number : ℕ) (h : History) (event : Event) (answer : Answer) → by_event is_death event answer ≡ false → is_dead (heard h event answer) number ≡ is_dead h number
+deaths-line : (number : ℕ) (h : History) (event : Event) (answer : Answer) → by_event is_death event answer ≡ false → is_dead (heard h event answer) number
+    ≡ is_dead h number
 deaths-line number h (events.Die renderer) answer e = absurd (true_false e)
 deaths-line number h events.Finish answer e = absurd (true_false e)
 deaths-line number h event answer e = refl
 
-states-line : (name : List ℕ) (h : History) (event : Event) (answer : Answer) → by_event is_file_or_gone event answer ≡ false → recorded (heard h event answer) name ≡ recorded h name
+states-line : (name : List ℕ) (h : History) (event : Event) (answer : Answer) → by_event is_file_or_gone event answer ≡ false → recorded (heard h event answer)
+    name ≡ recorded h name
 states-line name h (events.File name' stamp bytes) answer e = absurd (true_false e)
 states-line name h (events.Gone name') answer e = absurd (true_false e)
 states-line name h event answer e = refl
 
-stamps-line : (name : List ℕ) (h : History) (event : Event) (answer : Answer) → by_event is_file event answer ≡ false → last_stamp (heard h event answer) name ≡ last_stamp h name
+stamps-line : (name : List ℕ) (h : History) (event : Event) (answer : Answer) → by_event is_file event answer ≡ false → last_stamp (heard h event answer) name
+    ≡ last_stamp h name
 stamps-line name h (events.File name' stamp bytes) answer e = absurd (true_false e)
 stamps-line name h event answer e = refl
 
@@ -46,11 +49,13 @@ names-line : (h : History) (event : Event) (answer : Answer) → by_event is_fil
 names-line h (events.File name stamp bytes) answer e = absurd (true_false e)
 names-line h event answer e = refl
 
-contents-line : (name : List ℕ) (stamp : ℕ) (h : History) (event : Event) (answer : Answer) → by_event is_file event answer ≡ false → content (heard h event answer) name stamp ≡ content h name stamp
+contents-line : (name : List ℕ) (stamp : ℕ) (h : History) (event : Event) (answer : Answer) → by_event is_file event answer ≡ false
+    → content (heard h event answer) name stamp ≡ content h name stamp
 contents-line name stamp h (events.File name' stamp' bytes) answer e = absurd (true_false e)
 contents-line name stamp h event answer e = refl
 
-blobs-line : (page : ℕ) (h : History) (event : Event) (answer : Answer) → by_event is_build event answer ≡ false → builds page (heard h event answer) ≡ builds page h
+blobs-line : (page : ℕ) (h : History) (event : Event) (answer : Answer) → by_event is_build event answer ≡ false → builds page (heard h event answer)
+    ≡ builds page h
 blobs-line page h (events.Build renderer name kind parts) answer e = absurd (true_false e)
 blobs-line page h (events.Slice renderer name source from to kind) answer e = absurd (true_false e)
 blobs-line page h event answer e = refl
@@ -67,7 +72,8 @@ ends-said name h (answers.Broken b status) e = absurd (true_false e)
 ends-said name h (answers.Dropped b) e = absurd (true_false e)
 ends-said name h answer e = refl
 
-grants-line : (name : ℕ) (h : History) (event : Event) (answer : Answer) → is_grant answer ≡ false → was_granted (heard h event answer) name ≡ was_granted h name
+grants-line : (name : ℕ) (h : History) (event : Event) (answer : Answer) → is_grant answer ≡ false → was_granted (heard h event answer) name
+    ≡ was_granted h name
 grants-line name h event (answers.Granted b) e = absurd (true_false e)
 grants-line name h event answer e = refl
 
@@ -75,11 +81,13 @@ grants-said : (name : ℕ) (h : History) (answer : Answer) → is_grant answer �
 grants-said name h (answers.Granted b) e = absurd (true_false e)
 grants-said name h answer e = refl
 
-segments-line : (name : ℕ) (h : History) (event : Event) (answer : Answer) → by_event is_segment event answer ≡ false → arrivals (heard h event answer) name ≡ arrivals h name
+segments-line : (name : ℕ) (h : History) (event : Event) (answer : Answer) → by_event is_segment event answer ≡ false → arrivals (heard h event answer) name
+    ≡ arrivals h name
 segments-line name h (events.Segment renderer b segment bytes) answer e = absurd (true_false e)
 segments-line name h event answer e = refl
 
-handles-line : (holder : ℕ) (name : ℕ) (h : History) (event : Event) (answer : Answer) → by_event moves_handle event answer ≡ false → count (heard h event answer) holder name ≡ count h holder name
+handles-line : (holder : ℕ) (name : ℕ) (h : History) (event : Event) (answer : Answer) → by_event moves_handle event answer ≡ false
+    → count (heard h event answer) holder name ≡ count h holder name
 handles-line holder name h (events.Build renderer name' kind parts) answer e = absurd (true_false e)
 handles-line holder name h (events.Slice renderer name' source from to kind) answer e = absurd (true_false e)
 handles-line holder name h (events.Pass renderer to b) answer e = absurd (true_false e)
@@ -95,7 +103,8 @@ urls-line h (events.Die renderer) answer e = absurd (true_false e)
 urls-line h events.Finish answer e = absurd (true_false e)
 urls-line h event answer e = refl
 
-open_readers-line : (page : ℕ) (h : History) (event : Event) (answer : Answer) → moves_reader event answer ≡ false → readers page (heard h event answer) ≡ readers page h
+open_readers-line : (page : ℕ) (h : History) (event : Event) (answer : Answer) → moves_reader event answer ≡ false → readers page (heard h event answer)
+    ≡ readers page h
 open_readers-line page h (events.Read renderer reader b off len) answer e = absurd (true_false e)
 open_readers-line page h (events.Fetch renderer reader text off len) answer e = absurd (true_false e)
 open_readers-line page h (events.Step reader) (answers.Given number bytes) e = absurd (true_false e)

@@ -12,10 +12,12 @@ use Rattle.blob_model.specs.Changes.{Change, changes_after}
 use Rattle.blob_model.specs.PageLaws.{place_after, PlacesMove}
 
 -- one more page file is looked at first
-pub page_with_more : (list : List Page) (file : Page) (number : ℕ) → page_with (list ++ file ∷ []) number ≡ cond (lists file number) (Some file) (page_with list number)
+pub page_with_more : (list : List Page) (file : Page) (number : ℕ) → page_with (list ++ file ∷ []) number ≡ cond (lists file number) (Some file)
+    (page_with list number)
 page_with_more list file number = ap (find (λ (page : Page). lists page number)) (reverse-append list (file ∷ []))
 
-placed : (b : Bool) (file : Page) (found : Option Page) (build : Option Build) → place_by (cond b (Some file) found) build ≡ (if b then in_page file.number else place_by found build)
+placed : (b : Bool) (file : Page) (found : Option Page) (build : Option Build) → place_by (cond b (Some file) found) build
+    ≡ (if b then in_page file.number else place_by found build)
 placed true file found build = refl
 placed false file found build = refl
 
@@ -23,7 +25,8 @@ or_none : (b : Bool) → (b || false) ≡ b
 or_none true = refl
 or_none false = refl
 
-place_step : (answer : Answer) (list : List Page) (number : ℕ) (build : Option Build) → place_by (page_with (pages_after answer list) number) build ≡ place_after answer number (place_by (page_with list number) build)
+place_step : (answer : Answer) (list : List Page) (number : ℕ) (build : Option Build) → place_by (page_with (pages_after answer list) number) build
+    ≡ place_after answer number (place_by (page_with list number) build)
 place_step (answers.Stored file piece) list number build =
     let page : Page = record { number = file.0; pieces = piece.0 ∷ [] } in
     ap (λ (found : Option Page). place_by found build) (page_with_more list page number) ∙ placed (lists page number) page (page_with list number) build

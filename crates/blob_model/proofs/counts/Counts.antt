@@ -6,7 +6,7 @@ use Rattle.std.specs.List.{AllByRecursion, list_any}
 use Rattle.std.proofs.lemmas.Bool.{eqb-true}
 use Rattle.answer_text.specs.declared.answer.Answer.{Answer}
 use Rattle.answer_text.specs.declared.answer.Answer.TheVariants as answers
-use Rattle.blob_model.specs.Session.{Session}
+use Rattle.blob_model.specs.Session.{Session, page_limit}
 use Rattle.blob_model.specs.History.{History, start, heard, refused, said}
 use Rattle.blob_model.specs.Builds.{Build, builds}
 use Rattle.blob_model.specs.Pieces.{Piece, pieces, pieces_from}
@@ -29,12 +29,14 @@ found_low : (from : ℕ) (list : List Piece) (n : ℕ) (piece : Piece) → AreNu
 found_low from [] n piece all e = cc
 found_low from (x ∷ list) n piece all e = go (x.number == n) refl e (λ f. found_low (from + 1) list n piece all.1 f)
   where
-    go : (b : Bool) → (x.number == n) ≡ b → cond b (Some x) (find (λ (each : Piece). each.number == n) list) ≡ Some piece → (FoundIn list n piece → n < (from + 1) + length list) → n < from + length (x ∷ list)
+    go : (b : Bool) → (x.number == n) ≡ b → cond b (Some x) (find (λ (each : Piece). each.number == n) list) ≡ Some piece
+        → (FoundIn list n piece → n < (from + 1) + length list) → n < from + length (x ∷ list)
     go true at f rest = let same = eqb-true x.number n at in let here = all.0 in omega (arith, same, here)
     go false at f rest = let low = rest f in omega (arith, low)
 
-pub piece_low : (s : Session) (h : History) (n : ℕ) (piece : Piece) → FoundIn (pieces s.limits.page h) n piece → n < length (pieces s.limits.page h)
-piece_low s h n piece found = let low = found_low 0 (pieces s.limits.page h) n piece (pieces_numbered s.limits.page 0 (builds s.limits.page h)) found in omega (arith, low)
+pub piece_low : (s : Session) (h : History) (n : ℕ) (piece : Piece) → FoundIn (pieces (page_limit s) h) n piece → n < length (pieces (page_limit s) h)
+piece_low s h n piece found = let low = found_low 0 (pieces (page_limit s) h) n piece (pieces_numbered (page_limit s) 0 (builds (page_limit s) h)) found in
+    omega (arith, low)
 
 -- ---- what is counted
 
@@ -82,9 +84,9 @@ has_place written file n = option_map_or (λ (page : Page). page.number == file)
 -- a piece that no live blob has
 pub record IsDead (s : Session) (h : History) (n : ℕ) : Type 0 where
   pub piece : Piece
-  pub found : FoundIn (pieces s.limits.page h) n piece
-  pub member : named piece.blob (builds s.limits.page h) ≡ true
-  pub dead : owns_some (live_cells s.limits.page h) piece ≡ false
+  pub found : FoundIn (pieces (page_limit s) h) n piece
+  pub member : named piece.blob (builds (page_limit s) h) ≡ true
+  pub dead : owns_some (live_cells (page_limit s) h) piece ≡ false
 
 -- the pieces listed in page files that were not moved out of
 abbrev pub spare : List Page → List ℕ → ℕ
@@ -115,7 +117,7 @@ FliesWell s h (Some job) = FliesFrom s h job.pieces job.source
 
 pub record Counts (s : Session) (h : History) : Type 0 where
   pub starts_apart : AreApart (starts h)
-  pub starts_there : (n : ℕ) → is_among n (starts h) ≡ true → (piece : Piece) × FoundIn (pieces s.limits.page h) n piece
+  pub starts_there : (n : ℕ) → is_among n (starts h) ≡ true → (piece : Piece) × FoundIn (pieces (page_limit s) h) n piece
   pub starts_over : (n : ℕ) → is_among n (starts h) ≡ true → paging h ≡ true → (is_listed (pages h) (flying h) n ≡ true) ⊎ IsDead s h n
   pub firsts_apart : AreApart (firsts h)
   pub firsts_paged : (n : ℕ) → is_among n (firsts h) ≡ true → is_paged (pages h) n ≡ true
@@ -131,26 +133,29 @@ pub record Counts (s : Session) (h : History) : Type 0 where
 -- what is dead stays dead
 pub dead_stays : (s : Session) (h g : History) (n : ℕ) → Grown s h g → Falls s h g → IsDead s h n → IsDead s g n
 dead_stays s h g n grown falls one =
-    let more = pieces_append s.limits.page 0 (builds s.limits.page h) grown.more in
-    let whole : pieces s.limits.page g ≡ pieces s.limits.page h ++ more.0 = ap (pieces_from s.limits.page 0) grown.blobs ∙ more.1 in
+    let more = pieces_append (page_limit s) 0 (builds (page_limit s) h) grown.more in
+    let whole : pieces (page_limit s) g ≡ pieces (page_limit s) h ++ more.0 = ap (pieces_from (page_limit s) 0) grown.blobs ∙ more.1 in
     record {
       piece = one.piece;
-      found = subst (λ (list : List Piece). FoundIn list n one.piece) (sym whole) (found_append (pieces s.limits.page h) (more.0) n one.piece one.found);
-      member = ap (named one.piece.blob) grown.blobs ∙ any_append_first (λ (build : Build). build.name == one.piece.blob) (builds s.limits.page h) grown.more one.member;
-      dead = not_live (owns_some (live_cells s.limits.page g) one.piece) (falls one.piece one.member) one.dead;
+      found = subst (λ (list : List Piece). FoundIn list n one.piece) (sym whole) (found_append (pieces (page_limit s) h) (more.0) n one.piece one.found);
+      member = ap (named one.piece.blob) grown.blobs ∙ any_append_first (λ (build : Build). build.name == one.piece.blob) (builds (page_limit s) h) grown.more
+          one.member;
+      dead = not_live (owns_some (live_cells (page_limit s) g) one.piece) (falls one.piece one.member) one.dead;
     }
   where
     not_live : {c : Bool} (b : Bool) → (b ≡ true → c ≡ true) → c ≡ false → b ≡ false
     not_live false up e = refl
     not_live true up e = absurd (false_true (sym e ∙ up refl))
 
-pub found_stays : (s : Session) (h g : History) (n : ℕ) (piece : Piece) → Grown s h g → FoundIn (pieces s.limits.page h) n piece → FoundIn (pieces s.limits.page g) n piece
+pub found_stays : (s : Session) (h g : History) (n : ℕ) (piece : Piece) → Grown s h g → FoundIn (pieces (page_limit s) h) n piece
+    → FoundIn (pieces (page_limit s) g) n piece
 found_stays s h g n piece grown found =
-    let more = pieces_append s.limits.page 0 (builds s.limits.page h) grown.more in
-    let whole : pieces s.limits.page g ≡ pieces s.limits.page h ++ more.0 = ap (pieces_from s.limits.page 0) grown.blobs ∙ more.1 in
-    subst (λ (list : List Piece). FoundIn list n piece) (sym whole) (found_append (pieces s.limits.page h) (more.0) n piece found)
+    let more = pieces_append (page_limit s) 0 (builds (page_limit s) h) grown.more in
+    let whole : pieces (page_limit s) g ≡ pieces (page_limit s) h ++ more.0 = ap (pieces_from (page_limit s) 0) grown.blobs ∙ more.1 in
+    subst (λ (list : List Piece). FoundIn list n piece) (sym whole) (found_append (pieces (page_limit s) h) (more.0) n piece found)
 
-pub there_stays : (s : Session) (h g : History) (n : ℕ) → Grown s h g → (piece : Piece) × FoundIn (pieces s.limits.page h) n piece → (piece : Piece) × FoundIn (pieces s.limits.page g) n piece
+pub there_stays : (s : Session) (h g : History) (n : ℕ) → Grown s h g → (piece : Piece) × FoundIn (pieces (page_limit s) h) n piece → (piece : Piece)
+    × FoundIn (pieces (page_limit s) g) n piece
 there_stays s h g n grown one = (one.0, found_stays s h g n (one.0) grown one.1)
 
 -- a step that writes no page file and starts and ends no job
@@ -169,35 +174,42 @@ counts_still s h g grown falls still counts = record {
   starts_there = λ n e. there_stays s h g n grown (counts.starts_there n (subst (λ (xs : List ℕ). is_among n xs ≡ true) still.starts_same e));
   starts_over =
       λ n e on.
-      ⊎_elim (λ (listed : is_listed (pages h) (flying h) n ≡ true). inl ((λ i. is_listed (still.written i) (flying_of (still.flies i)) n) ∙ listed)) (λ (dead : IsDead s h n). inr (dead_stays s h g n grown falls dead))
+      ⊎_elim (λ (listed : is_listed (pages h) (flying h) n ≡ true). inl ((λ i. is_listed (still.written i) (flying_of (still.flies i)) n) ∙ listed))
+      (λ (dead : IsDead s h n). inr (dead_stays s h g n grown falls dead))
       (counts.starts_over n (subst (λ (xs : List ℕ). is_among n xs ≡ true) still.starts_same e) (still.still_on on));
   firsts_apart = subst AreApart (sym still.firsts_same) counts.firsts_apart;
-  firsts_paged = λ n e. ap (λ (xs : List Page). is_paged xs n) still.written ∙ counts.firsts_paged n (subst (λ (xs : List ℕ). is_among n xs ≡ true) still.firsts_same e);
+  firsts_paged = λ n e. ap (λ (xs : List Page). is_paged xs n) still.written ∙ counts.firsts_paged n
+      (subst (λ (xs : List ℕ). is_among n xs ≡ true) still.firsts_same e);
   pages_apart = subst (AllByRecursion (λ (file : Page). AreApart file.pieces)) (sym still.written) counts.pages_apart;
   flies_apart = subst (λ (job : Option Job). AreApart (flying_of job)) (sym still.flies) counts.flies_apart;
   flies = subst (FliesWell s g) (sym still.flies) (fly (in_flight h) counts.flies);
   moved_written =
       λ file e.
-      ap (λ (xs : List Page). list_any (λ (each : Page). each.number == file) xs) still.written ∙ counts.moved_written file (subst (λ (xs : List ℕ). is_among file xs ≡ true) still.sources_same e);
+      ap (λ (xs : List Page). list_any (λ (each : Page). each.number == file) xs) still.written ∙ counts.moved_written file
+      (subst (λ (xs : List ℕ). is_among file xs ≡ true) still.sources_same e);
   moved_over =
       λ file e on.
       ⊎_elim (λ (moves : moves_from (in_flight h) file ≡ true). inl (ap (λ (job : Option Job). moves_from job file) still.flies ∙ moves))
-      (λ (over : IsEmptied s h file). inr (λ n at. dead_stays s h g n grown falls (over n (subst (λ (xs : List Page). has_place xs file n ≡ true) still.written at))))
+      (λ (over : IsEmptied s h file). inr (λ n at. dead_stays s h g n grown falls
+      (over n (subst (λ (xs : List Page). has_place xs file n ≡ true) still.written at))))
       (counts.moved_over file (subst (λ (xs : List ℕ). is_among file xs ≡ true) still.sources_same e) (still.still_on on));
   less =
       let before = counts.less in
-      let left : (length (sources g) + spare (pages g) (sources g)) + moving (in_flight g) ≡ (length (sources h) + spare (pages h) (sources h)) + moving (in_flight h) =
+      let left : (length (sources g) + spare (pages g) (sources g)) + moving (in_flight g) ≡ (length (sources h) + spare (pages h) (sources h)) + moving
+      (in_flight h) =
       (λ i. (length (still.sources_same i) + spare (still.written i) (still.sources_same i)) + moving (still.flies i)) in
       let right : length (firsts g) ≡ length (firsts h) = ap length still.firsts_same in
       omega (arith, before, left, right);
 }
   where
     from : (list : List ℕ) (source : Option ℕ) → FliesFrom s h list source → FliesFrom s g list source
-    from list None one = for_each (λ (n : ℕ). is_paged (pages h) n ≡ false) (λ (n : ℕ). is_paged (pages g) n ≡ false) list (λ n e. ap (λ (xs : List Page). is_paged xs n) still.written ∙ e) one
+    from list None one = for_each (λ (n : ℕ). is_paged (pages h) n ≡ false) (λ (n : ℕ). is_paged (pages g) n ≡ false) list
+        (λ n e. ap (λ (xs : List Page). is_paged xs n) still.written ∙ e) one
     from list (Some file) one = (
       ap (λ (xs : List Page). list_any (λ (each : Page). each.number == file) xs) still.written ∙ one.0,
       (λ n at.
-          ⊎_elim (λ (there : is_among n list ≡ true). inl there) (λ (dead : IsDead s h n). inr (dead_stays s h g n grown falls dead)) (one.1 n (subst (λ (xs : List Page). has_place xs file n ≡ true) still.written at))),
+          ⊎_elim (λ (there : is_among n list ≡ true). inl there) (λ (dead : IsDead s h n). inr (dead_stays s h g n grown falls dead))
+          (one.1 n (subst (λ (xs : List Page). has_place xs file n ≡ true) still.written at))),
     )
 
     fly : (job : Option Job) → FliesWell s h job → FliesWell s g job

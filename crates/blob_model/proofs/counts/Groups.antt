@@ -13,7 +13,7 @@ use Rattle.session_script.specs.declared.event.Event.TheVariants as events
 use Rattle.answer_text.specs.declared.answer.Answer.{Answer}
 use Rattle.answer_text.specs.declared.answer.Answer.TheVariants as answers
 use Rattle.answer_text.specs.declared.refusal.Refusal.{Refusal}
-use Rattle.blob_model.specs.Session.{Session}
+use Rattle.blob_model.specs.Session.{Session, page_limit}
 use Rattle.blob_model.specs.History.{History, start, heard, refused, said}
 use Rattle.transport_plan.specs.Spans.{segment_spans}
 use Rattle.blob_model.specs.Parts.{own_lengths}
@@ -99,7 +99,14 @@ steady_keeps (answers.MoveUnread job file) e = absurd (false_true e)
 steady_keeps (answers.LostJob job) e = absurd (false_true e)
 steady_keeps (answers.Job job list) e = absurd (false_true e)
 steady_keeps (answers.Compacting job file list) e = absurd (false_true e)
-steady_keeps answer e = record { pages_same = λ list. refl; job_same = λ job. refl; stays_on = refl; starts_same = λ list. refl; sources_same = λ list. refl; firsts_same = λ list. refl }
+steady_keeps answer e = record {
+  pages_same = λ list. refl;
+  job_same = λ job. refl;
+  stays_on = refl;
+  starts_same = λ list. refl;
+  sources_same = λ list. refl;
+  firsts_same = λ list. refl;
+}
 
 still_on : (off now : Bool) → (if off then false else now) ≡ true → now ≡ true
 still_on true now e = absurd (false_true e)
@@ -135,55 +142,65 @@ owns_either : (b : Bool) → (b ≡ true) ⊎ (b ≡ false)
 owns_either true = inl refl
 owns_either false = inr refl
 
-dead_piece : (s : Session) (h : History) (n : ℕ) (one : HasPiece s h n) → owns_some (live_cells s.limits.page h) one.piece ≡ false → IsDead s h n
+dead_piece : (s : Session) (h : History) (n : ℕ) (one : HasPiece s h n) → owns_some (live_cells (page_limit s) h) one.piece ≡ false → IsDead s h n
 dead_piece s h n one gone = record {
   piece = one.piece;
   found = one.found;
   member =
-      found_all (λ (piece : Piece). named piece.blob (builds s.limits.page h) ≡ true) (λ (piece : Piece). piece.number == n) (pieces s.limits.page h) one.piece (pieces_named s.limits.page 0 (builds s.limits.page h)) one.found;
+      found_all (λ (piece : Piece). named piece.blob (builds (page_limit s) h) ≡ true) (λ (piece : Piece). piece.number == n) (pieces (page_limit s) h)
+      one.piece (pieces_named (page_limit s) 0 (builds (page_limit s) h)) one.found;
   dead = gone;
 }
 
 -- a reached piece isn't dead
-not_dead : (s : Session) (h : History) (n : ℕ) (piece : Piece) → FoundIn (pieces s.limits.page h) n piece → owns_some (live_cells s.limits.page h) piece ≡ true → IsDead s h n → ⊥
+not_dead : (s : Session) (h : History) (n : ℕ) (piece : Piece) → FoundIn (pieces (page_limit s) h) n piece → owns_some (live_cells (page_limit s) h) piece
+    ≡ true → IsDead s h n → ⊥
 not_dead s h n piece found owned one =
     let same : one.piece ≡ piece = (let e = one.found in cc) in
-    false_true (sym (subst (λ (each : Piece). owns_some (live_cells s.limits.page h) each ≡ false) same one.dead) ∙ owned)
+    false_true (sym (subst (λ (each : Piece). owns_some (live_cells (page_limit s) h) each ≡ false) same one.dead) ∙ owned)
 
 -- a listed piece of a job is left in it, or dead
-left_or_dead : (s : Session) (h : History) (job : Job) (n : ℕ) → IsCaused s h → in_flight h ≡ Some job → is_among n job.pieces ≡ true → (is_among n (job_left s.limits.page h) ≡ true) ⊎ IsDead s h n
+left_or_dead : (s : Session) (h : History) (job : Job) (n : ℕ) → IsCaused s h → in_flight h ≡ Some job → is_among n job.pieces ≡ true
+    → (is_among n (job_left (page_limit s) h) ≡ true) ⊎ IsDead s h n
 left_or_dead s h job n caused at e =
     let flies : list_any (λ (each : ℕ). each == n) (flying h) ≡ true = ap (λ (o : Option Job). list_any (λ (each : ℕ). each == n) (flying_of o)) at ∙ e in
     let one = listed_there s h caused n (or_second (is_paged (pages h) n) (list_any (λ (each : ℕ). each == n) (flying h)) flies) in
     ⊎_elim
-    (λ (owned : owns_some (live_cells s.limits.page h) one.piece ≡ true).
-    let passes : is_reached s h one.piece ≡ true = both (is_granted_piece h (builds s.limits.page h) one.piece) (owns_some (live_cells s.limits.page h) one.piece) one.granted owned in
-    let found = found_filter (λ (piece : Piece). piece.number == n) (is_reached s h) (pieces s.limits.page h) one.piece one.found passes in
-    let here = found_some (λ (piece : Piece). piece.number == n) (reached s.limits.page h) one.piece found in
-    inl (ap (λ (o : Option Job). is_among n (option_map_or (λ (each : Job). job_left_of each (reached s.limits.page h)) o [])) at
-    ∙ among_filter (λ (number : ℕ). list_any (λ (piece : Piece). piece.number == number) (reached s.limits.page h)) job.pieces n e here))
-    (λ (gone : owns_some (live_cells s.limits.page h) one.piece ≡ false). inr (dead_piece s h n one gone)) (owns_either (owns_some (live_cells s.limits.page h) one.piece))
+    (λ (owned : owns_some (live_cells (page_limit s) h) one.piece ≡ true).
+    let passes : is_reached s h one.piece ≡ true = both (is_granted_piece h (builds (page_limit s) h) one.piece)
+    (owns_some (live_cells (page_limit s) h) one.piece) one.granted owned in
+    let found = found_filter (λ (piece : Piece). piece.number == n) (is_reached s h) (pieces (page_limit s) h) one.piece one.found passes in
+    let here = found_some (λ (piece : Piece). piece.number == n) (reached (page_limit s) h) one.piece found in
+    inl (ap (λ (o : Option Job). is_among n (option_map_or (λ (each : Job). job_left_of each (reached (page_limit s) h)) o [])) at
+    ∙ among_filter (λ (number : ℕ). list_any (λ (piece : Piece). piece.number == number) (reached (page_limit s) h)) job.pieces n e here))
+    (λ (gone : owns_some (live_cells (page_limit s) h) one.piece ≡ false). inr (dead_piece s h n one gone))
+    (owns_either (owns_some (live_cells (page_limit s) h) one.piece))
 
 -- ---- the disk's reply
 
 -- the job of the line is in flight
-pub flying_job : (h : History) (job : JobNo) → not (option_map_or (λ (one : Job). one.number == job.0) (in_flight h) false) ≡ false → (one : Job) × (in_flight h ≡ Some one) × ((one.number == job.0) ≡ true)
+pub flying_job : (h : History) (job : JobNo) → not (option_map_or (λ (one : Job). one.number == job.0) (in_flight h) false) ≡ false → (one : Job)
+    × (in_flight h ≡ Some one) × ((one.number == job.0) ≡ true)
 flying_job h job test = go (in_flight h) refl test
   where
-    go : (found : Option Job) → in_flight h ≡ found → not (option_map_or (λ (one : Job). one.number == job.0) found false) ≡ false → (one : Job) × (in_flight h ≡ Some one) × ((one.number == job.0) ≡ true)
+    go : (found : Option Job) → in_flight h ≡ found → not (option_map_or (λ (one : Job). one.number == job.0) found false) ≡ false → (one : Job)
+        × (in_flight h ≡ Some one) × ((one.number == job.0) ≡ true)
     go None at f = absurd (false_true (sym f))
     go (Some one) at f = (one, at, not_false (one.number == job.0) f)
 
 pub ends_flight : (job : JobNo) (one : Job) → (one.number == job.0) ≡ true → without_job job.0 (Some one) ≡ None
 ends_flight job one e = ap (λ (b : Bool). cond b None (Some one)) e
 
-module _ (s : Session) (h : History) (event : Event) (answer : Answer) (job : JobNo) (line : IsHeard s h event answer) (caused : IsCaused s h) (counts : Counts s h) (one : Job) (at : in_flight h ≡ Some one) (here : (one.number == job.0) ≡ true) where
+module _ (s : Session) (h : History) (event : Event) (answer : Answer) (job : JobNo) (line : IsHeard s h event answer) (caused : IsCaused s h)
+    (counts : Counts s h) (one : Job) (at : in_flight h ≡ Some one) (here : (one.number == job.0) ≡ true) where
   without : without_job job.0 (in_flight h) ≡ None
   without = ap (without_job job.0) at ∙ ends_flight job one here
 
   -- the job ends with an answer that writes nothing
-  ended_by : (other : Answer) → answer ≡ other → pages_after other (pages h) ≡ pages h → in_flight_after other (in_flight h) ≡ without_job job.0 (in_flight h) → starts_after other (starts h) ≡ starts h → sources_after other (sources h) ≡ sources h
-      → firsts_after other (firsts h) ≡ firsts h → (((if turns_off other then false else paging h) ≡ true) → (n : ℕ) → is_among n (flying h) ≡ true → IsDead s h n) → Counts s (heard h event answer)
+  ended_by : (other : Answer) → answer ≡ other → pages_after other (pages h) ≡ pages h → in_flight_after other (in_flight h) ≡ without_job job.0 (in_flight h)
+      → starts_after other (starts h) ≡ starts h → sources_after other (sources h) ≡ sources h
+      → firsts_after other (firsts h) ≡ firsts h → (((if turns_off other then false else paging h) ≡ true) → (n : ℕ) → is_among n (flying h) ≡ true
+      → IsDead s h n) → Counts s (heard h event answer)
   ended_by other e written ends started moved first gone =
       counts_ended s h (heard h event answer) (record {
         grown = grown_heard s h event answer;
@@ -191,21 +208,26 @@ module _ (s : Session) (h : History) (event : Event) (answer : Answer) (job : Jo
         written = ap (λ (a : Answer). pages_after a (pages h)) e ∙ written;
         still_on = λ on. still_on (turns_off answer) (paging h) on;
         firsts_same = ap (λ (a : Answer). firsts_after a (firsts h)) e ∙ first;
-      }) counts (ap (λ (a : Answer). in_flight_after a (in_flight h)) e ∙ ends ∙ without) (ap (λ (a : Answer). starts_after a (starts h)) e ∙ started) (ap (λ (a : Answer). sources_after a (sources h)) e ∙ moved)
+      }) counts (ap (λ (a : Answer). in_flight_after a (in_flight h)) e ∙ ends ∙ without) (ap (λ (a : Answer). starts_after a (starts h)) e ∙ started)
+      (ap (λ (a : Answer). sources_after a (sources h)) e ∙ moved)
       (λ on n flies. gone (subst (λ (a : Answer). (if turns_off a then false else paging h) ≡ true) e on) n flies)
 
   off_by : {off : Bool} → off ≡ true → ((if off then false else paging h) ≡ true) → (n : ℕ) → is_among n (flying h) ≡ true → IsDead s h n
   off_by off on n flies = absurd (false_true (subst (λ (b : Bool). (if b then false else paging h) ≡ true) off on))
 
   -- the pieces that are left are written
-  written_by : (list : List ℕ) → job_left s.limits.page h ≡ list → (new : Page) → new.number ≡ next_page h → new.pieces ≡ list → (other : Answer) → answer ≡ other → pages_after other (pages h) ≡ pages h ++ new ∷ []
-      → in_flight_after other (in_flight h) ≡ without_job job.0 (in_flight h) → turns_off other ≡ false → starts_after other (starts h) ≡ starts h → sources_after other (sources h) ≡ sources h
+  written_by : (list : List ℕ) → job_left (page_limit s) h ≡ list → (new : Page) → new.number ≡ next_page h → new.pieces ≡ list → (other : Answer) → answer
+      ≡ other → pages_after other (pages h) ≡ pages h ++ new ∷ []
+      → in_flight_after other (in_flight h) ≡ without_job job.0 (in_flight h) → turns_off other ≡ false → starts_after other (starts h) ≡ starts h
+      → sources_after other (sources h) ≡ sources h
       → firsts_after other (firsts h) ≡ option_map_or (λ (file : ℕ). firsts h) one.source (new.pieces ++ firsts h) → Counts s (heard h event answer)
   written_by list left new number same other e written ends on started moved first =
-      let left_is : job_left s.limits.page h ≡ job_left_of one (reached s.limits.page h) = ap (λ (o : Option Job). option_map_or (λ (each : Job). job_left_of each (reached s.limits.page h)) o []) at in
-      let new_is : new.pieces ≡ job_left_of one (reached s.limits.page h) = same ∙ sym left ∙ left_is in
+      let left_is : job_left (page_limit s) h ≡ job_left_of one (reached (page_limit s) h) =
+      ap (λ (o : Option Job). option_map_or (λ (each : Job). job_left_of each (reached (page_limit s) h)) o []) at in
+      let new_is : new.pieces ≡ job_left_of one (reached (page_limit s) h) = same ∙ sym left ∙ left_is in
       let part : PartOf new.pieces one.pieces =
-      subst (λ (xs : List ℕ). PartOf xs one.pieces) (sym new_is) (part_filter (λ (n : ℕ). list_any (λ (piece : Piece). piece.number == n) (reached s.limits.page h)) one.pieces) in
+      subst (λ (xs : List ℕ). PartOf xs one.pieces) (sym new_is)
+      (part_filter (λ (n : ℕ). list_any (λ (piece : Piece). piece.number == n) (reached (page_limit s) h)) one.pieces) in
       let apart : AreApart one.pieces = subst (λ (o : Option Job). AreApart (flying_of o)) at counts.flies_apart in
       counts_written s h (heard h event answer) new (record {
         grown = grown_heard s h event answer;
@@ -225,22 +247,26 @@ module _ (s : Session) (h : History) (event : Event) (answer : Answer) (job : Jo
   source_is : source_of (in_flight h) ≡ one.source
   source_is = ap source_of at
 
-  replied : (source : Option ℕ) → source_of (in_flight h) ≡ source → (list : List ℕ) → job_left s.limits.page h ≡ list → IsOneOf (answer ∷ line.rest) ((job_done h job source list ∷ []) ∷ job_failed h job source list) → Counts s (heard h event answer)
+  replied : (source : Option ℕ) → source_of (in_flight h) ≡ source → (list : List ℕ) → job_left (page_limit s) h ≡ list → IsOneOf (answer ∷ line.rest)
+      ((job_done h job source list ∷ []) ∷ job_failed h job source list) → Counts s (heard h event answer)
   replied source from [] left (inl e) =
       ended_by (answers.Empty job) (same_first answer (answers.Empty job) line.rest [] e) refl refl refl refl refl
       (λ on n flies.
-      ⊎_elim (λ (there : is_among n (job_left s.limits.page h) ≡ true). absurd (false_true (ap (is_among n) (sym left) ∙ there))) (λ (dead : IsDead s h n). dead)
+      ⊎_elim (λ (there : is_among n (job_left (page_limit s) h) ≡ true). absurd (false_true (ap (is_among n) (sym left) ∙ there)))
+      (λ (dead : IsDead s h n). dead)
       (left_or_dead s h one n caused at (sym (ap (λ (o : Option Job). is_among n (flying_of o)) at) ∙ flies)))
   replied source from [] left (inr never) = absurd never
   replied None from (n ∷ more) left (inl e) =
-      written_by (n ∷ more) left (record { number = next_page h; pieces = numbers (piece_list (n ∷ more)) }) refl (numbers_list (n ∷ more)) (answers.Paged job (page_no (next_page h)) (piece_list (n ∷ more))) (same_first answer _ line.rest [] e)
+      written_by (n ∷ more) left (record { number = next_page h; pieces = numbers (piece_list (n ∷ more)) }) refl (numbers_list (n ∷ more))
+      (answers.Paged job (page_no (next_page h)) (piece_list (n ∷ more))) (same_first answer _ line.rest [] e)
       refl refl refl refl refl
       (sym (ap (λ (o : Option ℕ). option_map_or (λ (file : ℕ). firsts h) o (numbers (piece_list (n ∷ more)) ++ firsts h)) (sym source_is ∙ from)))
   replied None from (n ∷ more) left (inr (inl e)) =
       ended_by (answers.PageFailed job (page_no (next_page h))) (same_first answer _ line.rest [] e) refl refl refl refl refl (off_by {off = true} refl)
   replied None from (n ∷ more) left (inr (inr never)) = absurd never
   replied (Some file) from (n ∷ more) left (inl e) =
-      written_by (n ∷ more) left (record { number = next_page h; pieces = numbers (piece_list (n ∷ more)) }) refl (numbers_list (n ∷ more)) (answers.Moved job (page_no (next_page h)) (piece_list (n ∷ more))) (same_first answer _ line.rest [] e)
+      written_by (n ∷ more) left (record { number = next_page h; pieces = numbers (piece_list (n ∷ more)) }) refl (numbers_list (n ∷ more))
+      (answers.Moved job (page_no (next_page h)) (piece_list (n ∷ more))) (same_first answer _ line.rest [] e)
       refl refl refl refl refl
       (sym (ap (λ (o : Option ℕ). option_map_or (λ (each : ℕ). firsts h) o (numbers (piece_list (n ∷ more)) ++ firsts h)) (sym source_is ∙ from)))
   replied (Some file) from (n ∷ more) left (inr (inl e)) =
@@ -249,20 +275,24 @@ module _ (s : Session) (h : History) (event : Event) (answer : Answer) (job : Jo
       ended_by (answers.MoveUnread job (page_no file)) (same_first answer _ line.rest [] e) refl refl refl refl refl (off_by {off = true} refl)
   replied (Some file) from (n ∷ more) left (inr (inr (inr never))) = absurd never
 
-counts_heard : (s : Session) (h : History) (event : Event) (answer : Answer) → (line : IsHeard s h event answer) → IsCaused s h → Counts s h → OwnCase s h event (answer ∷ line.rest) → Counts s (heard h event answer)
+counts_heard : (s : Session) (h : History) (event : Event) (answer : Answer) → (line : IsHeard s h event answer) → IsCaused s h → Counts s h
+    → OwnCase s h event (answer ∷ line.rest) → Counts s (heard h event answer)
 counts_heard s h event answer line caused counts (idle one e free) =
     counts_still s h (heard h event answer) (grown_heard s h event answer) (falls_heard s h event answer line caused)
     (still_heard s h event answer (ap is_steady (same_first answer one line.rest [] e) ∙ idle_steady one free)) counts
 counts_heard s h event answer line caused counts (breaks b status broken building e) =
-    counts_still s h (heard h event answer) (grown_heard s h event answer) (falls_heard s h event answer line caused) (still_heard s h event answer (ap is_steady (same_first answer _ line.rest [] e))) counts
+    counts_still s h (heard h event answer) (grown_heard s h event answer) (falls_heard s h event answer line caused)
+    (still_heard s h event answer (ap is_steady (same_first answer _ line.rest [] e))) counts
 counts_heard s h event answer line caused counts (stores renderer b segment bytes n same at e) =
-    counts_still s h (heard h event answer) (grown_heard s h event answer) (falls_heard s h event answer line caused) (still_heard s h event answer (ap is_steady (same_first answer _ line.rest _ e))) counts
+    counts_still s h (heard h event answer) (grown_heard s h event answer) (falls_heard s h event answer line caused)
+    (still_heard s h event answer (ap is_steady (same_first answer _ line.rest _ e))) counts
 counts_heard s h event answer line caused counts (unstores renderer b segment bytes n same at e) =
-    counts_still s h (heard h event answer) (grown_heard s h event answer) (falls_heard s h event answer line caused) (still_heard s h event answer (ap is_steady (same_first answer _ line.rest _ e))) counts
+    counts_still s h (heard h event answer) (grown_heard s h event answer) (falls_heard s h event answer line caused)
+    (still_heard s h event answer (ap is_steady (same_first answer _ line.rest _ e))) counts
 counts_heard s h event answer line caused counts (replies job first same e reply done) =
     let passes : refusal s h (events.Disk job) ≡ None = subst (λ (each : Event). refusal s h each ≡ None) same line.passes in
     let one = flying_job h job (tests_fail s h (events.Disk job) passes).0 in
-    replied s h event answer job line caused counts (one.0) one.1 one.2 (source_of (in_flight h)) refl (job_left s.limits.page h) refl done
+    replied s h event answer job line caused counts (one.0) one.1 one.2 (source_of (in_flight h)) refl (job_left (page_limit s) h) refl done
 counts_heard s h event answer line caused counts (loses job same e) =
     let passes : refusal s h (events.Lost job) ≡ None = subst (λ (each : Event). refusal s h each ≡ None) same line.passes in
     let one = flying_job h job (tests_fail s h (events.Lost job) passes).0 in
@@ -274,27 +304,32 @@ counts_heard s h event answer line caused counts (loses job same e) =
 -- the piece that a segment stores
 pub record StoredPiece (s : Session) (g : History) (b segment : ℕ) : Type 0 where
   pub piece : Piece
-  pub place : slice_get (pieces_of s.limits.page g b) segment ≡ Some piece
-  pub found : FoundIn (pieces s.limits.page g) piece.number piece
+  pub place : slice_get (pieces_of (page_limit s) g b) segment ≡ Some piece
+  pub found : FoundIn (pieces (page_limit s) g) piece.number piece
   pub of_b : piece.blob ≡ b
-  pub filed : is_filed (builds s.limits.page g) piece.blob ≡ true
+  pub filed : is_filed (builds (page_limit s) g) piece.blob ≡ true
   pub fresh : has_come (arrivals g b) segment ≡ false
   pub number : piece_at s g b segment ≡ piece.number
 
-pub stored_piece : (s : Session) (g : History) (renderer : RendererId) (b segment : ℕ) (bytes : List ℕ) (n : ℕ) → refusal s g (events.Segment renderer b segment bytes) ≡ None → plan_in s g b ≡ Some (plans.File n) → StoredPiece s g b segment
-stored_piece s g renderer b segment bytes n passes plan = go (build_in (builds s.limits.page g) b) refl (tests_fail s g (events.Segment renderer b segment bytes) passes).1
+pub stored_piece : (s : Session) (g : History) (renderer : RendererId) (b segment : ℕ) (bytes : List ℕ) (n : ℕ)
+    → refusal s g (events.Segment renderer b segment bytes) ≡ None → plan_in s g b ≡ Some (plans.File n) → StoredPiece s g b segment
+stored_piece s g renderer b segment bytes n passes plan = go (build_in (builds (page_limit s) g) b) refl
+    (tests_fail s g (events.Segment renderer b segment bytes) passes).1
   where
-    go : (found : Option Build) → build_in (builds s.limits.page g) b ≡ found → AllByRecursion (λ (case : Bool × Refusal). case.0 ≡ false) (segment_refusals s g renderer b segment (length bytes) found) → StoredPiece s g b segment
+    go : (found : Option Build) → build_in (builds (page_limit s) g) b ≡ found → AllByRecursion (λ (case : Bool × Refusal). case.0 ≡ false)
+        (segment_refusals s g renderer b segment (length bytes) found) → StoredPiece s g b segment
     go None at tests = absurd (false_true (sym tests.0))
     go (Some build) at tests =
         let planned : build.plan ≡ Some (plans.File n) = sym (ap (λ (o : Option Build). option_map_or (λ (each : Build). each.plan) o None) at) ∙ plan in
-        let equal : spans s.limits build ≡ spans_of s.limits.page build =
-        (λ i. option_map_or (λ (p : Plan). segment_spans (own_lengths build.parts) p s.limits) (planned i) []) ∙ sym (λ i. planned_spans s.limits.page build (planned i)) in
+        let equal : spans s.limits build ≡ spans_of (page_limit s) build =
+        (λ i. option_map_or (λ (p : Plan). segment_spans (own_lengths build.parts) p s.limits) (planned i) []) ∙ sym
+        (λ i. planned_spans (page_limit s) build (planned i)) in
         let low = leb-false (length (spans s.limits build)) segment tests.1.0 in
         let same_length = ap length equal in
-        let within = spans_within s.limits.page 0 b (builds s.limits.page g) build at in
-        let there = get_there (pieces_of s.limits.page g b) segment (omega (arith, low, same_length, within)) in
-        let facts = get_all (λ (each : Piece). has_piece s g each × ((each.blob == b) ≡ true)) (pieces_of s.limits.page g b) segment (there.0) (filter_has (has_piece s g) (λ (each : Piece). each.blob == b) (pieces s.limits.page g) (all_pieces s g)) there.1 in
+        let within = spans_within (page_limit s) 0 b (builds (page_limit s) g) build at in
+        let there = get_there (pieces_of (page_limit s) g b) segment (omega (arith, low, same_length, within)) in
+        let facts = get_all (λ (each : Piece). has_piece s g each × ((each.blob == b) ≡ true)) (pieces_of (page_limit s) g b) segment (there.0)
+        (filter_has (has_piece s g) (λ (each : Piece). each.blob == b) (pieces (page_limit s) g) (all_pieces s g)) there.1 in
         let of_b : there.0.blob ≡ b = eqb-true there.0.blob b facts.1 in
         record {
           piece = there.0;
@@ -302,23 +337,28 @@ stored_piece s g renderer b segment bytes n passes plan = go (build_in (builds s
           found = facts.0;
           of_b = of_b;
           filed =
-              ap (λ (name : ℕ). is_reserved (unlisted_place (build_in (builds s.limits.page g) name))) of_b ∙ ap (λ (o : Option Build). is_reserved (unlisted_place o)) at ∙ ap (λ (p : Option Plan). is_reserved (planned_place p)) planned;
+              ap (λ (name : ℕ). is_reserved (unlisted_place (build_in (builds (page_limit s) g) name))) of_b ∙ ap
+              (λ (o : Option Build). is_reserved (unlisted_place o)) at ∙ ap (λ (p : Option Plan). is_reserved (planned_place p)) planned;
           fresh = tests.1.1.0;
           number = ap (λ (o : Option Piece). option_map_or (λ (each : Piece). each.number) o 0) there.1;
         }
 
 -- a segment that came with its piece is not to come again
-pub came_once : (s : Session) (g : History) (b segment : ℕ) (one : StoredPiece s g b segment) (other : Piece) → FoundIn (pieces s.limits.page g) one.piece.number other → HasCome s g other → ⊥
+pub came_once : (s : Session) (g : History) (b segment : ℕ) (one : StoredPiece s g b segment) (other : Piece) → FoundIn (pieces (page_limit s) g)
+    one.piece.number other → HasCome s g other → ⊥
 came_once s g b segment one other found came =
     let same : other ≡ one.piece = (let e = one.found in cc) in
     let before : HasCome s g one.piece = subst (HasCome s g) same came in
-    let at_place : slice_get (pieces_of s.limits.page g one.piece.blob) segment ≡ Some one.piece = subst (λ (name : ℕ). slice_get (pieces_of s.limits.page g name) segment ≡ Some one.piece) (sym one.of_b) one.place in
+    let at_place : slice_get (pieces_of (page_limit s) g one.piece.blob) segment ≡ Some one.piece =
+    subst (λ (name : ℕ). slice_get (pieces_of (page_limit s) g name) segment ≡ Some one.piece) (sym one.of_b) one.place in
     let equal : before.0 ≡ segment =
-    one_place (pieces_of s.limits.page g one.piece.blob) (before.0) segment one.piece
-    (filter_rising (λ (each : Piece). each.blob == one.piece.blob) (pieces s.limits.page g) (numbered_rising 0 (pieces s.limits.page g) (pieces_numbered s.limits.page 0 (builds s.limits.page g)))) before.1 at_place in
+    one_place (pieces_of (page_limit s) g one.piece.blob) (before.0) segment one.piece
+    (filter_rising (λ (each : Piece). each.blob == one.piece.blob) (pieces (page_limit s) g)
+    (numbered_rising 0 (pieces (page_limit s) g) (pieces_numbered (page_limit s) 0 (builds (page_limit s) g)))) before.1 at_place in
     false_true (sym one.fresh ∙ sym (λ i. has_come (arrivals g (one.of_b i)) (equal i)) ∙ before.2)
 
-not_listed : (s : Session) (g : History) (b segment : ℕ) → IsCaused s g → (one : StoredPiece s g b segment) → is_listed (pages g) (flying g) one.piece.number ≡ false
+not_listed : (s : Session) (g : History) (b segment : ℕ) → IsCaused s g → (one : StoredPiece s g b segment) → is_listed (pages g) (flying g) one.piece.number
+    ≡ false
 not_listed s g b segment caused one = go (is_listed (pages g) (flying g) one.piece.number) refl
   where
     go : (c : Bool) → is_listed (pages g) (flying g) one.piece.number ≡ c → c ≡ false
@@ -326,11 +366,15 @@ not_listed s g b segment caused one = go (is_listed (pages g) (flying g) one.pie
     go true at =
         let there = listed_there s g caused one.piece.number at in
         let same : there.piece ≡ one.piece = (let e = there.found in let f = one.found in cc) in
-        absurd (came_once s g b segment one there.piece there.found (there.came (subst (λ (each : Piece). is_filed (builds s.limits.page g) each.blob ≡ true) (sym same) one.filed)))
+        absurd (came_once s g b segment one there.piece there.found
+        (there.came (subst (λ (each : Piece). is_filed (builds (page_limit s) g) each.blob ≡ true) (sym same) one.filed)))
 
-store_counts : (s : Session) (g : History) (renderer : RendererId) (b segment : ℕ) (bytes : List ℕ) (n : ℕ) (answer : Answer) → IsFurther s (heard g (events.Segment renderer b segment bytes) (answers.Taken segment)) answer
-    → IsCaused s (heard g (events.Segment renderer b segment bytes) (answers.Taken segment)) → Counts s (heard g (events.Segment renderer b segment bytes) (answers.Taken segment)) → refusal s g (events.Segment renderer b segment bytes) ≡ None
-    → plan_in s g b ≡ Some (plans.File n) → answer ≡ answers.Stored (page_no (next_page g)) (piece_no (piece_at s g b segment)) → Counts s (said (heard g (events.Segment renderer b segment bytes) (answers.Taken segment)) answer)
+store_counts : (s : Session) (g : History) (renderer : RendererId) (b segment : ℕ) (bytes : List ℕ) (n : ℕ) (answer : Answer)
+    → IsFurther s (heard g (events.Segment renderer b segment bytes) (answers.Taken segment)) answer
+    → IsCaused s (heard g (events.Segment renderer b segment bytes) (answers.Taken segment))
+    → Counts s (heard g (events.Segment renderer b segment bytes) (answers.Taken segment)) → refusal s g (events.Segment renderer b segment bytes) ≡ None
+    → plan_in s g b ≡ Some (plans.File n) → answer ≡ answers.Stored (page_no (next_page g)) (piece_no (piece_at s g b segment))
+    → Counts s (said (heard g (events.Segment renderer b segment bytes) (answers.Taken segment)) answer)
 store_counts s g renderer b segment bytes n answer cause caused counts passes plan e =
     let one = stored_piece s g renderer b segment bytes n passes plan in
     let fresh = ap (is_listed (pages g) (flying g)) one.number ∙ not_listed s g b segment caused.1 one in
@@ -365,14 +409,17 @@ memory_unlisted : (found : Option Page) (build : Option Build) → is_memory (pl
 memory_unlisted None build e = refl
 memory_unlisted (Some file) build e = absurd (false_true e)
 
-start_counts : (s : Session) (h : History) (number : ℕ) (more : List ℕ) (answer : Answer) → IsFurther s h answer → IsCaused s h → Counts s h → may_start h ≡ true → chosen s.limits h ≡ number ∷ more
+start_counts : (s : Session) (h : History) (number : ℕ) (more : List ℕ) (answer : Answer) → IsFurther s h answer → IsCaused s h → Counts s h → may_start h
+    ≡ true → chosen s.limits h ≡ number ∷ more
     → answer ≡ answers.Job (job_no (next_job h)) (piece_list (number ∷ more)) → Counts s (said h answer)
 start_counts s h number more answer cause caused counts may at e =
     let parts = and_parts (paging h) (is_none (in_flight h)) may in
-    let stand : AllByRecursion (StandsFor (IsOfDone s h) (pageable s.limits.page h)) (number ∷ more) = subst (AllByRecursion (StandsFor (IsOfDone s h) (pageable s.limits.page h))) at (chosen_stand s h caused) in
+    let stand : AllByRecursion (StandsFor (IsOfDone s h) (pageable (page_limit s) h)) (number ∷ more) =
+    subst (AllByRecursion (StandsFor (IsOfDone s h) (pageable (page_limit s) h))) at (chosen_stand s h caused) in
     let apart : AreApart (chosen s.limits h) =
     part_apart (chosen s.limits h) (last_uses s.limits h)
-    (part_victims (memory s.limits.page h + head_bytes (waits s.limits.page h) - s.limits.memory) (min s.limits.page (s.limits.disk - disk s.limits.page h)) (pageable s.limits.page h) (last_uses s.limits h)) (uses_apart s.limits h) in
+    (part_victims (memory (page_limit s) h + head_bytes (waits (page_limit s) h) - s.limits.memory) (min (page_limit s) (s.limits.disk - disk (page_limit s) h))
+    (pageable (page_limit s) h) (last_uses s.limits h)) (uses_apart s.limits h) in
     let first = stand.0 in
     counts_started s h (said h answer) (record {
       grown = grown_said s h answer;
@@ -381,19 +428,22 @@ start_counts s h number more answer cause caused counts may at e =
       still_on = λ on. on;
       firsts_same = ap (λ (a : Answer). firsts_after a (firsts h)) e;
     }) counts (next_job h) number more (none_of_idle (in_flight h) parts.1) parts.0
-    (ap (λ (a : Answer). in_flight_after a (in_flight h)) e ∙ ap (λ (xs : List ℕ). Some (record { number = next_job h; source = None; pieces = xs })) (numbers_list (number ∷ more)))
+    (ap (λ (a : Answer). in_flight_after a (in_flight h)) e ∙ ap (λ (xs : List ℕ). Some (record { number = next_job h; source = None; pieces = xs }))
+    (numbers_list (number ∷ more)))
     (ap (λ (a : Answer). starts_after a (starts h)) e) (ap (λ (a : Answer). sources_after a (sources h)) e) (subst AreApart at apart)
-    (for_each (StandsFor (IsOfDone s h) (pageable s.limits.page h)) (λ (n : ℕ). is_paged (pages h) n ≡ false) (number ∷ more)
+    (for_each (StandsFor (IsOfDone s h) (pageable (page_limit s) h)) (λ (n : ℕ). is_paged (pages h) n ≡ false) (number ∷ more)
     (λ n one.
     subst (λ (m : ℕ). is_paged (pages h) m ≡ false) one.1
-    (none_paged (pages h) one.0.number (memory_unlisted (page_with (pages h) one.0.number) (build_in (builds s.limits.page h) one.0.blob) one.2.in_mind))) stand)
-    (first.0, subst (λ (m : ℕ). FoundIn (pieces s.limits.page h) m first.0) first.1 first.2.there.1)
+    (none_paged (pages h) one.0.number (memory_unlisted (page_with (pages h) one.0.number) (build_in (builds (page_limit s) h) one.0.blob) one.2.in_mind)))
+    stand)
+    (first.0, subst (λ (m : ℕ). FoundIn (pieces (page_limit s) h) m first.0) first.1 first.2.there.1)
     (λ dead.
-    not_dead s h number first.0 (subst (λ (m : ℕ). FoundIn (pieces s.limits.page h) m first.0) first.1 first.2.there.1)
-    (and_parts (is_granted_piece h (builds s.limits.page h) first.0) (owns_some (live_cells s.limits.page h) first.0) first.2.reaches).1 dead)
+    not_dead s h number first.0 (subst (λ (m : ℕ). FoundIn (pieces (page_limit s) h) m first.0) first.1 first.2.there.1)
+    (and_parts (is_granted_piece h (builds (page_limit s) h) first.0) (owns_some (live_cells (page_limit s) h) first.0) first.2.reaches).1 dead)
 
 -- where a piece in a page file has its place
-placed_in : (found : Option Page) (build : Option Build) (file : ℕ) → is_page file (place_by found build) ≡ true → option_map_or (λ (page : Page). page.number == file) found false ≡ true
+placed_in : (found : Option Page) (build : Option Build) (file : ℕ) → is_page file (place_by found build) ≡ true
+    → option_map_or (λ (page : Page). page.number == file) found false ≡ true
 placed_in (Some page) build file e = e
 placed_in None build file e = absurd (go (unlisted_place build) (plain build) e)
   where
@@ -414,40 +464,51 @@ placed_in None build file e = absurd (go (unlisted_place build) (plain build) e)
     go at (inl f) g = false_true (sym (ap (is_page file) f) ∙ g)
     go at (inr f) g = false_true (sym (ap (is_page file) f) ∙ g)
 
-place_given : (found : Option Page) (build : Option Build) (file : ℕ) → option_map_or (λ (page : Page). page.number == file) found false ≡ true → is_page file (place_by found build) ≡ true
+place_given : (found : Option Page) (build : Option Build) (file : ℕ) → option_map_or (λ (page : Page). page.number == file) found false ≡ true
+    → is_page file (place_by found build) ≡ true
 place_given (Some page) build file e = e
 place_given None build file e = absurd (false_true e)
 
 -- a page file that is moved out of was written
 pub file_written : (s : Session) (h : History) (file : Page) → movable s h ≡ Some file → was_written h file.number ≡ true
 file_written s h file found =
-    found_all (λ (each : Page). was_written h each.number ≡ true) (can_move s h (builds s.limits.page h) (pieces s.limits.page h) (reached s.limits.page h)) (files s.limits.page h) file
-    (filter_all (λ (each : Page). was_written h each.number ≡ true) (λ (page : Page). nat_lt 0 (length (in_page_of h (builds s.limits.page h) page (reached s.limits.page h)))) (pages h) (all_numbered (λ (page : Page). page.number) (pages h))) found
+    found_all (λ (each : Page). was_written h each.number ≡ true) (can_move s h (builds (page_limit s) h) (pieces (page_limit s) h) (reached (page_limit s) h))
+    (files (page_limit s) h) file
+    (filter_all (λ (each : Page). was_written h each.number ≡ true)
+    (λ (page : Page). nat_lt 0 (length (in_page_of h (builds (page_limit s) h) page (reached (page_limit s) h)))) (pages h)
+    (all_numbered (λ (page : Page). page.number) (pages h))) found
 
-module _ (s : Session) (h : History) (file : Page) (answer : Answer) (cause : IsFurther s h answer) (caused : IsCaused s h) (counts : Counts s h) (may : may_start h ≡ true) (found : movable s h ≡ Some file) (e : answer ≡ compaction s h file) where
+module _ (s : Session) (h : History) (file : Page) (answer : Answer) (cause : IsFurther s h answer) (caused : IsCaused s h) (counts : Counts s h)
+    (may : may_start h ≡ true) (found : movable s h ≡ Some file) (e : answer ≡ compaction s h file) where
   apart : AreApartPages (pages h)
   apart = rising_apart 0 (next_page h) (pages h) (pages_rise s h caused)
 
   -- what all page files have this one has
   of_file : (P : Page → Type 0) → AllByRecursion P (pages h) → P file
   of_file P all =
-      found_all P (can_move s h (builds s.limits.page h) (pieces s.limits.page h) (reached s.limits.page h)) (files s.limits.page h) file
-      (filter_all P (λ (page : Page). nat_lt 0 (length (in_page_of h (builds s.limits.page h) page (reached s.limits.page h)))) (pages h) all) found
+      found_all P (can_move s h (builds (page_limit s) h) (pieces (page_limit s) h) (reached (page_limit s) h)) (files (page_limit s) h) file
+      (filter_all P (λ (page : Page). nat_lt 0 (length (in_page_of h (builds (page_limit s) h) page (reached (page_limit s) h)))) (pages h) all) found
 
   same_as : AllByRecursion (λ (each : Page). (each.number == file.number) ≡ true → each ≡ file) (pages h)
-  same_as = of_file (λ (page : Page). AllByRecursion (λ (each : Page). (each.number == page.number) ≡ true → each ≡ page) (pages h)) (same_pages (pages h) apart)
+  same_as = of_file (λ (page : Page). AllByRecursion (λ (each : Page). (each.number == page.number) ≡ true → each ≡ page) (pages h))
+      (same_pages (pages h) apart)
 
-  all_live_in : AllByRecursion (λ (piece : Piece). (FoundIn (pieces s.limits.page h) piece.number piece × (is_reached s h piece ≡ true)) × (is_page file.number (place_in h (builds s.limits.page h) piece) ≡ true)) (in_page_of h (builds s.limits.page h) file (reached s.limits.page h))
+  all_live_in : AllByRecursion (λ (piece : Piece). (FoundIn (pieces (page_limit s) h) piece.number piece × (is_reached s h piece ≡ true))
+      × (is_page file.number (place_in h (builds (page_limit s) h) piece) ≡ true)) (in_page_of h (builds (page_limit s) h) file (reached (page_limit s) h))
   all_live_in =
-      filter_has (λ (piece : Piece). has_piece s h piece × (is_reached s h piece ≡ true)) (λ (piece : Piece). is_page file.number (place_in h (builds s.limits.page h) piece)) (reached s.limits.page h)
-      (filter_has (has_piece s h) (is_reached s h) (pieces s.limits.page h) (all_pieces s h))
+      filter_has (λ (piece : Piece). has_piece s h piece × (is_reached s h piece ≡ true))
+      (λ (piece : Piece). is_page file.number (place_in h (builds (page_limit s) h) piece)) (reached (page_limit s) h)
+      (filter_has (has_piece s h) (is_reached s h) (pieces (page_limit s) h) (all_pieces s h))
 
-  some_live : 0 < length (in_page_of h (builds s.limits.page h) file (reached s.limits.page h))
+  some_live : 0 < length (in_page_of h (builds (page_limit s) h) file (reached (page_limit s) h))
   some_live =
-      ltb-true 0 (length (in_page_of h (builds s.limits.page h) file (reached s.limits.page h)))
-      (found_all (λ (page : Page). nat_lt 0 (length (in_page_of h (builds s.limits.page h) page (reached s.limits.page h))) ≡ true) (can_move s h (builds s.limits.page h) (pieces s.limits.page h) (reached s.limits.page h)) (files s.limits.page h) file
-      (for_each (λ (page : Page). Unit {0} × (nat_lt 0 (length (in_page_of h (builds s.limits.page h) page (reached s.limits.page h))) ≡ true)) (λ (page : Page). nat_lt 0 (length (in_page_of h (builds s.limits.page h) page (reached s.limits.page h))) ≡ true)
-      (files s.limits.page h) (λ page f. f.1) (filter_has (λ (page : Page). Unit {0}) (λ (page : Page). nat_lt 0 (length (in_page_of h (builds s.limits.page h) page (reached s.limits.page h)))) (pages h) (nothing (pages h)))) found)
+      ltb-true 0 (length (in_page_of h (builds (page_limit s) h) file (reached (page_limit s) h)))
+      (found_all (λ (page : Page). nat_lt 0 (length (in_page_of h (builds (page_limit s) h) page (reached (page_limit s) h))) ≡ true)
+      (can_move s h (builds (page_limit s) h) (pieces (page_limit s) h) (reached (page_limit s) h)) (files (page_limit s) h) file
+      (for_each (λ (page : Page). Unit {0} × (nat_lt 0 (length (in_page_of h (builds (page_limit s) h) page (reached (page_limit s) h))) ≡ true))
+      (λ (page : Page). nat_lt 0 (length (in_page_of h (builds (page_limit s) h) page (reached (page_limit s) h))) ≡ true)
+      (files (page_limit s) h) (λ page f. f.1) (filter_has (λ (page : Page). Unit {0})
+      (λ (page : Page). nat_lt 0 (length (in_page_of h (builds (page_limit s) h) page (reached (page_limit s) h)))) (pages h) (nothing (pages h)))) found)
     where
       nothing : (list : List Page) → AllByRecursion (λ (page : Page). Unit {0}) list
       nothing [] = tt
@@ -456,9 +517,10 @@ module _ (s : Session) (h : History) (file : Page) (answer : Answer) (cause : Is
   -- a live piece is in it, so it isn't emptied
   not_emptied : IsEmptied s h file.number → ⊥
   not_emptied gone =
-      let one = some_first _ (in_page_of h (builds s.limits.page h) file (reached s.limits.page h)) some_live all_live_in in
-      not_dead s h one.0.number (one.0) one.1.0.0 (and_parts (is_granted_piece h (builds s.limits.page h) (one.0)) (owns_some (live_cells s.limits.page h) (one.0)) one.1.0.1).1
-      (gone one.0.number (placed_in (page_with (pages h) one.0.number) (build_in (builds s.limits.page h) one.0.blob) file.number one.1.1))
+      let one = some_first _ (in_page_of h (builds (page_limit s) h) file (reached (page_limit s) h)) some_live all_live_in in
+      not_dead s h one.0.number (one.0) one.1.0.0 (and_parts (is_granted_piece h (builds (page_limit s) h) (one.0))
+      (owns_some (live_cells (page_limit s) h) (one.0)) one.1.0.1).1
+      (gone one.0.number (placed_in (page_with (pages h) one.0.number) (build_in (builds (page_limit s) h) one.0.blob) file.number one.1.1))
 
   -- each piece that has its place there is listed there
   lists_it : (n : ℕ) → has_place (pages h) file.number n ≡ true → lists file n ≡ true
@@ -468,43 +530,61 @@ module _ (s : Session) (h : History) (file : Page) (answer : Answer) (cause : Is
       go None at f = absurd (false_true f)
       go (Some page) at f =
           let equal : page ≡ file =
-          found_all (λ (each : Page). (each.number == file.number) ≡ true → each ≡ file) (λ (each : Page). lists each n) (reverse (pages h)) page (all_reverse (λ (each : Page). (each.number == file.number) ≡ true → each ≡ file) (pages h) same_as) at f in
+          found_all (λ (each : Page). (each.number == file.number) ≡ true → each ≡ file) (λ (each : Page). lists each n) (reverse (pages h)) page
+          (all_reverse (λ (each : Page). (each.number == file.number) ≡ true → each ≡ file) (pages h) same_as) at f in
           subst (λ (each : Page). lists each n ≡ true) equal (found_true (λ (each : Page). lists each n) (reverse (pages h)) page at)
 
   kept_or_dead : (n : ℕ) → has_place (pages h) file.number n ≡ true → (is_among n (kept s h file) ≡ true) ⊎ IsDead s h n
   kept_or_dead n placed =
       let listed = lists_it n placed in
-      let paged : is_paged (pages h) n ≡ true = of_file (λ (each : Page). lists each n ≡ true → is_paged (pages h) n ≡ true) (each_any (λ (each : Page). lists each n) (pages h)) listed in
+      let paged : is_paged (pages h) n ≡ true = of_file (λ (each : Page). lists each n ≡ true → is_paged (pages h) n ≡ true)
+      (each_any (λ (each : Page). lists each n) (pages h)) listed in
       let one = listed_there s h caused n (or_first (is_paged (pages h) n) (list_any (λ (each : ℕ). each == n) (flying h)) paged) in
       ⊎_elim
-      (λ (owned : owns_some (live_cells s.limits.page h) one.piece ≡ true).
-      let passes : is_reached s h one.piece ≡ true = both (is_granted_piece h (builds s.limits.page h) one.piece) (owns_some (live_cells s.limits.page h) one.piece) one.granted owned in
-      let number : one.piece.number ≡ n = found_number (pieces s.limits.page h) n one.piece one.found in
-      let placed_here : has_place (pages h) file.number one.piece.number ≡ true = subst (λ (m : ℕ). has_place (pages h) file.number m ≡ true) (sym number) placed in
-      let here : is_page file.number (place_in h (builds s.limits.page h) one.piece) ≡ true = place_given (page_with (pages h) one.piece.number) (build_in (builds s.limits.page h) one.piece.blob) file.number placed_here in
-      let first = found_filter (λ (piece : Piece). piece.number == n) (is_reached s h) (pieces s.limits.page h) one.piece one.found passes in
-      let second = found_filter (λ (piece : Piece). piece.number == n) (λ (piece : Piece). is_page file.number (place_in h (builds s.limits.page h) piece)) (reached s.limits.page h) one.piece first here in
+      (λ (owned : owns_some (live_cells (page_limit s) h) one.piece ≡ true).
+      let passes : is_reached s h one.piece ≡ true = both (is_granted_piece h (builds (page_limit s) h) one.piece)
+      (owns_some (live_cells (page_limit s) h) one.piece) one.granted owned in
+      let number : one.piece.number ≡ n = found_number (pieces (page_limit s) h) n one.piece one.found in
+      let placed_here : has_place (pages h) file.number one.piece.number ≡ true = subst (λ (m : ℕ). has_place (pages h) file.number m ≡ true) (sym number)
+      placed in
+      let here : is_page file.number (place_in h (builds (page_limit s) h) one.piece) ≡ true = place_given (page_with (pages h) one.piece.number)
+      (build_in (builds (page_limit s) h) one.piece.blob) file.number placed_here in
+      let first = found_filter (λ (piece : Piece). piece.number == n) (is_reached s h) (pieces (page_limit s) h) one.piece one.found passes in
+      let second = found_filter (λ (piece : Piece). piece.number == n) (λ (piece : Piece). is_page file.number (place_in h (builds (page_limit s) h) piece))
+      (reached (page_limit s) h) one.piece first here in
       inl
-      (among_filter (λ (m : ℕ). list_any (λ (piece : Piece). piece.number == m) (in_page_of h (builds s.limits.page h) file (reached s.limits.page h))) file.pieces n listed
-      (found_some (λ (piece : Piece). piece.number == n) (in_page_of h (builds s.limits.page h) file (reached s.limits.page h)) one.piece second)))
-      (λ (gone : owns_some (live_cells s.limits.page h) one.piece ≡ false). inr (dead_piece s h n one gone)) (owns_either (owns_some (live_cells s.limits.page h) one.piece))
+      (among_filter (λ (m : ℕ). list_any (λ (piece : Piece). piece.number == m) (in_page_of h (builds (page_limit s) h) file (reached (page_limit s) h)))
+      file.pieces n listed
+      (found_some (λ (piece : Piece). piece.number == n) (in_page_of h (builds (page_limit s) h) file (reached (page_limit s) h)) one.piece second)))
+      (λ (gone : owns_some (live_cells (page_limit s) h) one.piece ≡ false). inr (dead_piece s h n one gone))
+      (owns_either (owns_some (live_cells (page_limit s) h) one.piece))
 
   -- a thin page file has a piece that isn't moved
   fewer : length (kept s h file) < length file.pieces
   fewer =
       ⊎_elim (λ (all : kept s h file ≡ file.pieces). absurd (too_small all)) (λ (less : length (kept s h file) < length file.pieces). less)
-      (keeps_or_fewer (λ (m : ℕ). list_any (λ (piece : Piece). piece.number == m) (in_page_of h (builds s.limits.page h) file (reached s.limits.page h))) file.pieces)
+      (keeps_or_fewer (λ (m : ℕ). list_any (λ (piece : Piece). piece.number == m) (in_page_of h (builds (page_limit s) h) file (reached (page_limit s) h)))
+      file.pieces)
     where
       too_small : kept s h file ≡ file.pieces → ⊥
       too_small all =
-          let test = found_true (can_move s h (builds s.limits.page h) (pieces s.limits.page h) (reached s.limits.page h)) (files s.limits.page h) file found in
-          let thin = (and_parts (is_thin h (builds s.limits.page h) (pieces s.limits.page h) (reached s.limits.page h) file) (nat_le (bytes_of (in_page_of h (builds s.limits.page h) file (reached s.limits.page h))) (s.limits.disk - disk s.limits.page h)) test).0 in
-          let small = ltb-true (2 * bytes_of (in_page_of h (builds s.limits.page h) file (reached s.limits.page h))) (page_size (pieces s.limits.page h) file) thin in
-          let measured : AllByRecursion (λ (piece : Piece). length_in (pieces s.limits.page h) piece.number ≡ piece.len) (in_page_of h (builds s.limits.page h) file (reached s.limits.page h)) =
-          for_each (λ (piece : Piece). (FoundIn (pieces s.limits.page h) piece.number piece × (is_reached s h piece ≡ true)) × (is_page file.number (place_in h (builds s.limits.page h) piece) ≡ true))
-          (λ (piece : Piece). length_in (pieces s.limits.page h) piece.number ≡ piece.len) (in_page_of h (builds s.limits.page h) file (reached s.limits.page h)) (λ piece f. length_found (pieces s.limits.page h) piece.number piece f.0.0) all_live_in in
-          let sums = apart_sum (length_in (pieces s.limits.page h)) file.pieces (in_page_of h (builds s.limits.page h) file (reached s.limits.page h)) (of_file (λ (each : Page). AreApart each.pieces) counts.pages_apart) measured in
-          let whole : sum_by (length_in (pieces s.limits.page h)) (kept s h file) ≡ page_size (pieces s.limits.page h) file = ap (sum_by (length_in (pieces s.limits.page h))) all in
+          let test = found_true (can_move s h (builds (page_limit s) h) (pieces (page_limit s) h) (reached (page_limit s) h)) (files (page_limit s) h) file
+          found in
+          let thin = (and_parts (is_thin h (builds (page_limit s) h) (pieces (page_limit s) h) (reached (page_limit s) h) file)
+          (nat_le (bytes_of (in_page_of h (builds (page_limit s) h) file (reached (page_limit s) h))) (s.limits.disk - disk (page_limit s) h)) test).0 in
+          let small = ltb-true (2 * bytes_of (in_page_of h (builds (page_limit s) h) file (reached (page_limit s) h)))
+          (page_size (pieces (page_limit s) h) file) thin in
+          let measured : AllByRecursion (λ (piece : Piece). length_in (pieces (page_limit s) h) piece.number ≡ piece.len)
+          (in_page_of h (builds (page_limit s) h) file (reached (page_limit s) h)) =
+          for_each (λ (piece : Piece). (FoundIn (pieces (page_limit s) h) piece.number piece × (is_reached s h piece ≡ true))
+          × (is_page file.number (place_in h (builds (page_limit s) h) piece) ≡ true))
+          (λ (piece : Piece). length_in (pieces (page_limit s) h) piece.number ≡ piece.len)
+          (in_page_of h (builds (page_limit s) h) file (reached (page_limit s) h))
+          (λ piece f. length_found (pieces (page_limit s) h) piece.number piece f.0.0) all_live_in in
+          let sums = apart_sum (length_in (pieces (page_limit s) h)) file.pieces (in_page_of h (builds (page_limit s) h) file (reached (page_limit s) h))
+          (of_file (λ (each : Page). AreApart each.pieces) counts.pages_apart) measured in
+          let whole : sum_by (length_in (pieces (page_limit s) h)) (kept s h file) ≡ page_size (pieces (page_limit s) h) file =
+          ap (sum_by (length_in (pieces (page_limit s) h))) all in
           omega (arith, small, sums, whole)
 
   -- so some piece is moved
@@ -515,7 +595,8 @@ module _ (s : Session) (h : History) (file : Page) (answer : Answer) (cause : Is
       go [] at =
           absurd
           (not_emptied
-          (λ n placed. ⊎_elim (λ (there : is_among n (kept s h file) ≡ true). absurd (false_true (ap (is_among n) (sym at) ∙ there))) (λ (dead : IsDead s h n). dead) (kept_or_dead n placed)))
+          (λ n placed. ⊎_elim (λ (there : is_among n (kept s h file) ≡ true). absurd (false_true (ap (is_among n) (sym at) ∙ there)))
+          (λ (dead : IsDead s h n). dead) (kept_or_dead n placed)))
       go (x ∷ list) at = omega arith
 
   move_counts : Counts s (said h answer)
@@ -528,31 +609,44 @@ module _ (s : Session) (h : History) (file : Page) (answer : Answer) (cause : Is
         still_on = λ on. on;
         firsts_same = ap (λ (a : Answer). firsts_after a (firsts h)) e;
       }) counts (next_job h) file (kept s h file) (none_of_idle (in_flight h) parts.1) parts.0
-      (ap (λ (a : Answer). in_flight_after a (in_flight h)) e ∙ ap (λ (xs : List ℕ). Some (record { number = next_job h; source = Some file.number; pieces = xs })) (numbers_list (kept s h file)))
+      (ap (λ (a : Answer). in_flight_after a (in_flight h)) e ∙ ap
+      (λ (xs : List ℕ). Some (record { number = next_job h; source = Some file.number; pieces = xs })) (numbers_list (kept s h file)))
       (ap (λ (a : Answer). starts_after a (starts h)) e) (ap (λ (a : Answer). sources_after a (sources h)) e)
-      (part_apart (kept s h file) file.pieces (part_filter (λ (m : ℕ). list_any (λ (piece : Piece). piece.number == m) (in_page_of h (builds s.limits.page h) file (reached s.limits.page h))) file.pieces)
+      (part_apart (kept s h file) file.pieces
+      (part_filter (λ (m : ℕ). list_any (λ (piece : Piece). piece.number == m) (in_page_of h (builds (page_limit s) h) file (reached (page_limit s) h)))
+      file.pieces)
       (of_file (λ (each : Page). AreApart each.pieces) counts.pages_apart))
-      (of_file (λ (each : Page). was_written h each.number ≡ true) (all_numbered (λ (page : Page). page.number) (pages h))) apart same_as fewer kept_or_dead not_emptied
+      (of_file (λ (each : Page). was_written h each.number ≡ true) (all_numbered (λ (page : Page). page.number) (pages h))) apart same_as fewer kept_or_dead
+      not_emptied
 
 -- ---- all steps
 
 counts_said : (s : Session) (h : History) (answer : Answer) → IsFurther s h answer → IsCaused s h → Counts s h → Counts s (said h answer)
 counts_said s h answer (by_store g renderer b segment bytes n same passes at e) caused counts =
     subst (λ (k : History). Counts s (said k answer)) (sym same)
-    (store_counts s g renderer b segment bytes n answer (by_store g renderer b segment bytes n refl passes at e) (subst (IsCaused s) same caused) (subst (Counts s) same counts) passes at e)
+    (store_counts s g renderer b segment bytes n answer (by_store g renderer b segment bytes n refl passes at e) (subst (IsCaused s) same caused)
+    (subst (Counts s) same counts) passes at e)
 counts_said s h answer (by_unstore g renderer b segment bytes n same passes at e) caused counts =
-    counts_still s h (said h answer) (grown_said s h answer) (falls_said s h answer (by_unstore g renderer b segment bytes n same passes at e)) (still_said s h answer (ap is_steady e)) counts
-counts_said s h answer (by_drop build found begun unrooted e) caused counts = counts_still s h (said h answer) (grown_said s h answer) (falls_said s h answer (by_drop build found begun unrooted e)) (still_said s h answer (ap is_steady e)) counts
+    counts_still s h (said h answer) (grown_said s h answer) (falls_said s h answer (by_unstore g renderer b segment bytes n same passes at e))
+    (still_said s h answer (ap is_steady e)) counts
+counts_said s h answer (by_drop build found begun unrooted e) caused counts = counts_still s h (said h answer) (grown_said s h answer)
+    (falls_said s h answer (by_drop build found begun unrooted e)) (still_said s h answer (ap is_steady e)) counts
 counts_said s h answer (by_break build found begun status broken e) caused counts =
-    counts_still s h (said h answer) (grown_said s h answer) (falls_said s h answer (by_break build found begun status broken e)) (still_said s h answer (ap is_steady e)) counts
+    counts_still s h (said h answer) (grown_said s h answer) (falls_said s h answer (by_break build found begun status broken e))
+    (still_said s h answer (ap is_steady e)) counts
 counts_said s h answer (by_done build found begun complete e) caused counts =
-    counts_still s h (said h answer) (grown_said s h answer) (falls_said s h answer (by_done build found begun complete e)) (still_said s h answer (ap is_steady e)) counts
+    counts_still s h (said h answer) (grown_said s h answer) (falls_said s h answer (by_done build found begun complete e))
+    (still_said s h answer (ap is_steady e)) counts
 counts_said s h answer (by_removal number written left (inl e)) caused counts =
-    counts_still s h (said h answer) (grown_said s h answer) (falls_said s h answer (by_removal number written left (inl e))) (still_said s h answer (ap is_steady e)) counts
+    counts_still s h (said h answer) (grown_said s h answer) (falls_said s h answer (by_removal number written left (inl e)))
+    (still_said s h answer (ap is_steady e)) counts
 counts_said s h answer (by_removal number written left (inr e)) caused counts =
-    counts_still s h (said h answer) (grown_said s h answer) (falls_said s h answer (by_removal number written left (inr e))) (still_said s h answer (ap is_steady e)) counts
-counts_said s h answer (by_grant build found e) caused counts = counts_still s h (said h answer) (grown_said s h answer) (falls_said s h answer (by_grant build found e)) (still_said s h answer (ap is_steady e)) counts
-counts_said s h answer (by_page_job number more may at e) caused counts = start_counts s h number more answer (by_page_job number more may at e) caused counts may at e
+    counts_still s h (said h answer) (grown_said s h answer) (falls_said s h answer (by_removal number written left (inr e)))
+    (still_said s h answer (ap is_steady e)) counts
+counts_said s h answer (by_grant build found e) caused counts = counts_still s h (said h answer) (grown_said s h answer)
+    (falls_said s h answer (by_grant build found e)) (still_said s h answer (ap is_steady e)) counts
+counts_said s h answer (by_page_job number more may at e) caused counts = start_counts s h number more answer (by_page_job number more may at e) caused counts
+    may at e
 counts_said s h answer (by_compaction file may found e) caused counts = move_counts s h file answer (by_compaction file may found e) caused counts may found e
 
 pub counts_caused : (s : Session) (h : History) → IsCaused s h → Counts s h
@@ -569,8 +663,16 @@ counts_caused s start caused = record {
   moved_over = λ file e on. absurd (false_true e);
   less = omega arith;
 }
-counts_caused s (heard h event answer) caused = counts_heard s h event answer caused.0 caused.1 (counts_caused s h caused.1) (own_case s h event (answer ∷ caused.0.rest) caused.0.own)
+counts_caused s (heard h event answer) caused = counts_heard s h event answer caused.0 caused.1 (counts_caused s h caused.1)
+    (own_case s h event (answer ∷ caused.0.rest) caused.0.own)
 counts_caused s (refused h event why) caused =
-    counts_still s h (refused h event why) (record { grants = λ name e. e; more = []; blobs = sym (append-nil (builds s.limits.page h)); came = λ name. []; segments = λ name. sym (append-nil (arrivals h name)) })
-    (λ piece member owned. owned) (record { written = refl; flies = refl; still_on = λ on. on; starts_same = refl; sources_same = refl; firsts_same = refl }) (counts_caused s h caused.2)
+    counts_still s h (refused h event why) (record {
+      grants = λ name e. e;
+      more = [];
+      blobs = sym (append-nil (builds (page_limit s) h));
+      came = λ name. [];
+      segments = λ name. sym (append-nil (arrivals h name));
+    })
+    (λ piece member owned. owned) (record { written = refl; flies = refl; still_on = λ on. on; starts_same = refl; sources_same = refl; firsts_same = refl })
+    (counts_caused s h caused.2)
 counts_caused s (said h answer) caused = counts_said s h answer caused.0 caused.1 (counts_caused s h caused.1)

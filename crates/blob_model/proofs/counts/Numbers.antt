@@ -11,7 +11,7 @@ use Rattle.session_script.specs.declared.event.Event.{Event}
 use Rattle.session_script.specs.declared.event.Event.TheVariants as events
 use Rattle.answer_text.specs.declared.answer.Answer.{Answer}
 use Rattle.answer_text.specs.declared.answer.Answer.TheVariants as answers
-use Rattle.blob_model.specs.Session.{Session}
+use Rattle.blob_model.specs.Session.{Session, page_limit}
 use Rattle.blob_model.specs.History.{History, start, heard, refused, said}
 use Rattle.blob_model.specs.Transport.{Arrival, arrivals, has_come}
 use Rattle.blob_model.specs.Pieces.{Piece, pieces, pieces_of}
@@ -102,37 +102,47 @@ reply_keeps h answer e = record { jobs_same = λ n. refl; starts_same = λ list.
 first_keeps : (s : Session) (h : History) (event : Event) (answer : Answer) (rest : List Answer) → OwnCase s h event (answer ∷ rest) → FirstKeeps h answer
 first_keeps s h event answer rest (idle one e free) = subst (FirstKeeps h) (sym (same_first answer one rest [] e)) (idle_keeps h one free)
 first_keeps s h event answer rest (breaks b status broken building e) =
-    subst (FirstKeeps h) (sym (same_first answer (answers.Broken b status) rest [] e)) (record { jobs_same = λ n. refl; starts_same = λ list. refl; sources_same = λ list. refl; stores_same = λ n. refl })
+    subst (FirstKeeps h) (sym (same_first answer (answers.Broken b status) rest [] e))
+    (record { jobs_same = λ n. refl; starts_same = λ list. refl; sources_same = λ list. refl; stores_same = λ n. refl })
 first_keeps s h event answer rest (stores renderer b segment bytes n same at e) =
-    subst (FirstKeeps h) (sym (same_first answer (answers.Taken segment) rest _ e)) (record { jobs_same = λ n. refl; starts_same = λ list. refl; sources_same = λ list. refl; stores_same = λ n. refl })
+    subst (FirstKeeps h) (sym (same_first answer (answers.Taken segment) rest _ e))
+    (record { jobs_same = λ n. refl; starts_same = λ list. refl; sources_same = λ list. refl; stores_same = λ n. refl })
 first_keeps s h event answer rest (unstores renderer b segment bytes n same at e) =
-    subst (FirstKeeps h) (sym (same_first answer (answers.Taken segment) rest _ e)) (record { jobs_same = λ n. refl; starts_same = λ list. refl; sources_same = λ list. refl; stores_same = λ n. refl })
+    subst (FirstKeeps h) (sym (same_first answer (answers.Taken segment) rest _ e))
+    (record { jobs_same = λ n. refl; starts_same = λ list. refl; sources_same = λ list. refl; stores_same = λ n. refl })
 first_keeps s h event answer rest (replies job one same e reply done) = subst (FirstKeeps h) (sym (same_first answer one rest [] e)) (reply_keeps h one reply)
 first_keeps s h event answer rest (loses job same e) =
-    subst (FirstKeeps h) (sym (same_first answer (answers.LostJob job) rest [] e)) (record { jobs_same = λ n. refl; starts_same = λ list. refl; sources_same = λ list. refl; stores_same = λ n. refl })
+    subst (FirstKeeps h) (sym (same_first answer (answers.LostJob job) rest [] e))
+    (record { jobs_same = λ n. refl; starts_same = λ list. refl; sources_same = λ list. refl; stores_same = λ n. refl })
 
 -- ---- jobs are page jobs and moves
 
 abbrev AsJobs : Answer → ℕ → List ℕ → List ℕ → Type 0
 AsJobs answer n first moved = next_job_after answer n ≡ length (starts_after answer first) + length (sources_after answer moved)
 
-jobs_said : (s : Session) (h : History) (answer : Answer) → IsFurther s h answer → next_job h ≡ length (starts h) + length (sources h) → AsJobs answer (next_job h) (starts h) (sources h)
-jobs_said s h answer (by_store g renderer b segment bytes n same passes at e) before = subst (λ (a : Answer). AsJobs a (next_job h) (starts h) (sources h)) (sym e) before
-jobs_said s h answer (by_unstore g renderer b segment bytes n same passes at e) before = subst (λ (a : Answer). AsJobs a (next_job h) (starts h) (sources h)) (sym e) before
+jobs_said : (s : Session) (h : History) (answer : Answer) → IsFurther s h answer → next_job h ≡ length (starts h) + length (sources h)
+    → AsJobs answer (next_job h) (starts h) (sources h)
+jobs_said s h answer (by_store g renderer b segment bytes n same passes at e) before = subst (λ (a : Answer). AsJobs a (next_job h) (starts h) (sources h))
+    (sym e) before
+jobs_said s h answer (by_unstore g renderer b segment bytes n same passes at e) before = subst (λ (a : Answer). AsJobs a (next_job h) (starts h) (sources h))
+    (sym e) before
 jobs_said s h answer (by_drop build found begun unrooted e) before = subst (λ (a : Answer). AsJobs a (next_job h) (starts h) (sources h)) (sym e) before
 jobs_said s h answer (by_break build found begun status broken e) before = subst (λ (a : Answer). AsJobs a (next_job h) (starts h) (sources h)) (sym e) before
 jobs_said s h answer (by_done build found begun complete e) before = subst (λ (a : Answer). AsJobs a (next_job h) (starts h) (sources h)) (sym e) before
 jobs_said s h answer (by_removal number written left (inl e)) before = subst (λ (a : Answer). AsJobs a (next_job h) (starts h) (sources h)) (sym e) before
 jobs_said s h answer (by_removal number written left (inr e)) before = subst (λ (a : Answer). AsJobs a (next_job h) (starts h) (sources h)) (sym e) before
 jobs_said s h answer (by_grant build found e) before = subst (λ (a : Answer). AsJobs a (next_job h) (starts h) (sources h)) (sym e) before
-jobs_said s h answer (by_page_job number more may at e) before = subst (λ (a : Answer). AsJobs a (next_job h) (starts h) (sources h)) (sym e) (omega (arith, before))
-jobs_said s h answer (by_compaction file may found e) before = subst (λ (a : Answer). AsJobs a (next_job h) (starts h) (sources h)) (sym e) (omega (arith, before))
+jobs_said s h answer (by_page_job number more may at e) before = subst (λ (a : Answer). AsJobs a (next_job h) (starts h) (sources h)) (sym e)
+    (omega (arith, before))
+jobs_said s h answer (by_compaction file may found e) before = subst (λ (a : Answer). AsJobs a (next_job h) (starts h) (sources h)) (sym e)
+    (omega (arith, before))
 
 jobs_are_both : (s : Session) (h : History) → IsCaused s h → next_job h ≡ length (starts h) + length (sources h)
 jobs_are_both s start caused = omega arith
 jobs_are_both s (heard h event answer) caused =
     let keeps = first_keeps s h event answer caused.0.rest (own_case s h event (answer ∷ caused.0.rest) caused.0.own) in
-    keeps.jobs_same (next_job h) ∙ jobs_are_both s h caused.1 ∙ (λ i. length (sym (keeps.starts_same (starts h)) i) + length (sym (keeps.sources_same (sources h)) i))
+    keeps.jobs_same (next_job h) ∙ jobs_are_both s h caused.1 ∙ (λ i. length (sym (keeps.starts_same (starts h)) i) + length
+    (sym (keeps.sources_same (sources h)) i))
 jobs_are_both s (refused h event why) caused = jobs_are_both s h caused.2
 jobs_are_both s (said h answer) caused = jobs_said s h answer caused.0 (jobs_are_both s h caused.1)
 
@@ -142,8 +152,12 @@ jobs_low s h caused =
     let totals = totals_hold s h caused in
     let most = totals.all_pieces in
     let both_kinds = jobs_are_both s h caused in
-    let page_jobs = few_below (starts h) (length (pieces s.limits.page h)) counts.starts_apart (λ n e. let one = counts.starts_there n e in piece_low s h n (one.0) one.1) in
-    let first_writes = few_below (firsts h) (length (pieces s.limits.page h)) counts.firsts_apart (λ n e. let one = listed_there s h caused n (or_first (is_paged (pages h) n) (list_any (λ (each : ℕ). each == n) (flying h)) (counts.firsts_paged n e)) in piece_low s h n one.piece one.found) in
+    let page_jobs = few_below (starts h) (length (pieces (page_limit s) h)) counts.starts_apart (λ n e. let one = counts.starts_there n e in
+    piece_low s h n (one.0) one.1) in
+    let first_writes = few_below (firsts h) (length (pieces (page_limit s) h)) counts.firsts_apart
+    (λ n e.
+    let one = listed_there s h caused n (or_first (is_paged (pages h) n) (list_any (λ (each : ℕ). each == n) (flying h)) (counts.firsts_paged n e)) in
+    piece_low s h n one.piece one.found) in
     let less = counts.less in
     omega (arith, most, both_kinds, page_jobs, first_writes, less)
 
@@ -170,11 +184,14 @@ idle_flies (answers.Compacting job file list) n now most e low = absurd (false_t
 idle_flies answer n now most e low = low
 
 -- the job of the line is over
-over_now : (h : History) (job : JobNo) (one : Job) → in_flight h ≡ Some one → (one.number == job.0) ≡ true → (busy (without_job job.0 (in_flight h)) ≡ 0) × (busy (in_flight h) ≡ 1)
+over_now : (h : History) (job : JobNo) (one : Job) → in_flight h ≡ Some one → (one.number == job.0) ≡ true → (busy (without_job job.0 (in_flight h)) ≡ 0)
+    × (busy (in_flight h) ≡ 1)
 over_now h job one at here = (ap busy (ap (without_job job.0) at ∙ ends_flight job one here), ap busy at)
 
-reply_flies : (h : History) (job : JobNo) (one : Job) (source : Option ℕ) (list : List ℕ) (answer : Answer) (rest : List Answer) (n most : ℕ) → in_flight h ≡ Some one → (one.number == job.0) ≡ true
-    → IsOneOf (answer ∷ rest) ((job_done h job source list ∷ []) ∷ job_failed h job source list) → n + busy (in_flight h) ≤ most → Ends answer n (in_flight h) most
+reply_flies : (h : History) (job : JobNo) (one : Job) (source : Option ℕ) (list : List ℕ) (answer : Answer) (rest : List Answer) (n most : ℕ) → in_flight h
+    ≡ Some one → (one.number == job.0) ≡ true
+    → IsOneOf (answer ∷ rest) ((job_done h job source list ∷ []) ∷ job_failed h job source list) → n + busy (in_flight h) ≤ most → Ends answer n (in_flight h)
+    most
 reply_flies h job one source [] answer rest n most at here (inl e) low =
     let ends = over_now h job one at here in
     let none = ends.0 in
@@ -208,15 +225,20 @@ reply_flies h job one (Some file) (number ∷ numbers) answer rest n most at her
     subst (λ (a : Answer). Ends a n (in_flight h) most) (sym (same_first answer _ rest [] e)) (omega (arith, none, was, low))
 reply_flies h job one (Some file) (number ∷ numbers) answer rest n most at here (inr (inr (inr never))) low = absurd never
 
-first_flies : (s : Session) (h : History) (event : Event) (answer : Answer) → (line : IsHeard s h event answer) → (n most : ℕ) → OwnCase s h event (answer ∷ line.rest) → n + busy (in_flight h) ≤ most → Ends answer n (in_flight h) most
-first_flies s h event answer line n most (idle one e free) low = subst (λ (a : Answer). Ends a n (in_flight h) most) (sym (same_first answer one line.rest [] e)) (idle_flies one n (in_flight h) most free low)
-first_flies s h event answer line n most (breaks b status broken building e) low = subst (λ (a : Answer). Ends a n (in_flight h) most) (sym (same_first answer (answers.Broken b status) line.rest [] e)) low
-first_flies s h event answer line n most (stores renderer b segment bytes k same at e) low = subst (λ (a : Answer). Ends a n (in_flight h) most) (sym (same_first answer (answers.Taken segment) line.rest _ e)) low
-first_flies s h event answer line n most (unstores renderer b segment bytes k same at e) low = subst (λ (a : Answer). Ends a n (in_flight h) most) (sym (same_first answer (answers.Taken segment) line.rest _ e)) low
+first_flies : (s : Session) (h : History) (event : Event) (answer : Answer) → (line : IsHeard s h event answer) → (n most : ℕ)
+    → OwnCase s h event (answer ∷ line.rest) → n + busy (in_flight h) ≤ most → Ends answer n (in_flight h) most
+first_flies s h event answer line n most (idle one e free) low = subst (λ (a : Answer). Ends a n (in_flight h) most)
+    (sym (same_first answer one line.rest [] e)) (idle_flies one n (in_flight h) most free low)
+first_flies s h event answer line n most (breaks b status broken building e) low = subst (λ (a : Answer). Ends a n (in_flight h) most)
+    (sym (same_first answer (answers.Broken b status) line.rest [] e)) low
+first_flies s h event answer line n most (stores renderer b segment bytes k same at e) low = subst (λ (a : Answer). Ends a n (in_flight h) most)
+    (sym (same_first answer (answers.Taken segment) line.rest _ e)) low
+first_flies s h event answer line n most (unstores renderer b segment bytes k same at e) low = subst (λ (a : Answer). Ends a n (in_flight h) most)
+    (sym (same_first answer (answers.Taken segment) line.rest _ e)) low
 first_flies s h event answer line n most (replies job first same e reply done) low =
     let passes : refusal s h (events.Disk job) ≡ None = subst (λ (each : Event). refusal s h each ≡ None) same line.passes in
     let one = flying_job h job (tests_fail s h (events.Disk job) passes).0 in
-    reply_flies h job (one.0) (source_of (in_flight h)) (job_left s.limits.page h) answer line.rest n most one.1 one.2 done low
+    reply_flies h job (one.0) (source_of (in_flight h)) (job_left (page_limit s) h) answer line.rest n most one.1 one.2 done low
 first_flies s h event answer line n most (loses job same e) low =
     let passes : refusal s h (events.Lost job) ≡ None = subst (λ (each : Event). refusal s h each ≡ None) same line.passes in
     let one = flying_job h job (tests_fail s h (events.Lost job) passes).0 in
@@ -243,8 +265,10 @@ second_flies s h answer (by_done build found begun complete e) low = subst (λ (
 second_flies s h answer (by_removal number written left (inl e)) low = subst (λ (a : Answer). EndsFew a h) (sym e) low
 second_flies s h answer (by_removal number written left (inr e)) low = subst (λ (a : Answer). EndsFew a h) (sym e) low
 second_flies s h answer (by_grant build found e) low = subst (λ (a : Answer). EndsFew a h) (sym e) low
-second_flies s h answer (by_page_job number more may at e) low = let none = nobody_flies h may in subst (λ (a : Answer). EndsFew a h) (sym e) (omega (arith, none, low))
-second_flies s h answer (by_compaction file may found e) low = let none = nobody_flies h may in subst (λ (a : Answer). EndsFew a h) (sym e) (omega (arith, none, low))
+second_flies s h answer (by_page_job number more may at e) low = let none = nobody_flies h may in
+    subst (λ (a : Answer). EndsFew a h) (sym e) (omega (arith, none, low))
+second_flies s h answer (by_compaction file may found e) low = let none = nobody_flies h may in
+    subst (λ (a : Answer). EndsFew a h) (sym e) (omega (arith, none, low))
 
 ends_few : (s : Session) (h : History) → IsCaused s h → ended_jobs h + busy (in_flight h) ≤ next_job h
 ends_few s start caused = omega arith
@@ -279,10 +303,12 @@ abbrev pending : Session → History → ℕ
 pending s (heard h event answer) = length (segment_after s h event [])
 pending s h = 0
 
-segment_grows : (s : Session) (h : History) (event : Event) (before : List ℕ) → length (segment_after s h event before) ≡ length before + length (segment_after s h event [])
+segment_grows : (s : Session) (h : History) (event : Event) (before : List ℕ) → length (segment_after s h event before) ≡ length before + length
+    (segment_after s h event [])
 segment_grows s h (events.Segment renderer b segment bytes) before = go (plan_in s h b)
   where
-    go : (plan : Option Plan) → length (brought_after plan (piece_at s h b segment) before) ≡ length before + length (brought_after plan (piece_at s h b segment) [])
+    go : (plan : Option Plan) → length (brought_after plan (piece_at s h b segment) before) ≡ length before + length
+        (brought_after plan (piece_at s h b segment) [])
     go (Some (plans.File n)) = omega arith
     go None = omega arith
     go (Some plans.None) = omega arith
@@ -295,7 +321,8 @@ segment_grows s h event before = omega arith
 abbrev StoresFew : Session → Answer → History → Type 0
 StoresFew s answer h = stores_after answer (stored h) ≤ length (brought s h)
 
-pending_one : (s : Session) (g : History) (renderer : RendererId) (b segment : ℕ) (bytes : List ℕ) (n : ℕ) (first : Answer) → plan_in s g b ≡ Some (plans.File n) → pending s (heard g (events.Segment renderer b segment bytes) first) ≡ 1
+pending_one : (s : Session) (g : History) (renderer : RendererId) (b segment : ℕ) (bytes : List ℕ) (n : ℕ) (first : Answer) → plan_in s g b
+    ≡ Some (plans.File n) → pending s (heard g (events.Segment renderer b segment bytes) first) ≡ 1
 pending_one s g renderer b segment bytes n first at = ap (λ (plan : Option Plan). length (brought_after plan (piece_at s g b segment) [])) at
 
 second_stores : (s : Session) (h : History) (answer : Answer) → IsFurther s h answer → stored h + pending s h ≤ length (brought s h) → StoresFew s answer h
@@ -327,7 +354,7 @@ stores_few s (said h answer) caused = let few = second_stores s h answer caused.
 
 -- the pieces that were brought differ, and their segments came
 abbrev CameWith : Session → History → ℕ → Type 0
-CameWith s h n = (piece : Piece) × FoundIn (pieces s.limits.page h) n piece × HasCome s h piece
+CameWith s h n = (piece : Piece) × FoundIn (pieces (page_limit s) h) n piece × HasCome s h piece
 
 record Brings (s : Session) (h : History) (list : List ℕ) : Type 0 where
   apart : AreApart list
@@ -342,21 +369,25 @@ brings_on s h g list grown before = record {
       (one.0, found_stays s h g n (one.0) grown one.1, came_stays s h g (one.0) grown one.2);
 }
 
-brings_more : (s : Session) (h : History) (event : Event) (answer : Answer) → refusal s h event ≡ None → Brings s h (brought s h) → Brings s (heard h event answer) (segment_after s h event (brought s h))
+brings_more : (s : Session) (h : History) (event : Event) (answer : Answer) → refusal s h event ≡ None → Brings s h (brought s h)
+    → Brings s (heard h event answer) (segment_after s h event (brought s h))
 brings_more s h (events.Segment renderer b segment bytes) answer passes before = go (plan_in s h b) refl
   where
     event : Event
     event = events.Segment renderer b segment bytes
 
     next : Brings s (heard h (events.Segment renderer b segment bytes) answer) (brought s h)
-    next = brings_on s h (heard h (events.Segment renderer b segment bytes) answer) (brought s h) (grown_heard s h (events.Segment renderer b segment bytes) answer) before
+    next = brings_on s h (heard h (events.Segment renderer b segment bytes) answer) (brought s h)
+        (grown_heard s h (events.Segment renderer b segment bytes) answer) before
 
     has_now : has_come (arrivals (heard h (events.Segment renderer b segment bytes) answer) b) segment ≡ true
     has_now =
         (λ i. has_come (cond (eq-eqb b b refl i) (arrivals h b ++ record { segment = segment; bytes = bytes } ∷ []) (arrivals h b)) segment)
-        ∙ any_append_second (λ (arrival : Arrival). arrival.segment == segment) (arrivals h b) (record { segment = segment; bytes = bytes } ∷ []) (or_first (segment == segment) false (eq-eqb segment segment refl))
+        ∙ any_append_second (λ (arrival : Arrival). arrival.segment == segment) (arrivals h b) (record { segment = segment; bytes = bytes } ∷ [])
+        (or_first (segment == segment) false (eq-eqb segment segment refl))
 
-    filed : (n : ℕ) → plan_in s h b ≡ Some (plans.File n) → Brings s (heard h (events.Segment renderer b segment bytes) answer) (piece_at s h b segment ∷ brought s h)
+    filed : (n : ℕ) → plan_in s h b ≡ Some (plans.File n) → Brings s (heard h (events.Segment renderer b segment bytes) answer)
+        (piece_at s h b segment ∷ brought s h)
     filed n at =
         let one = stored_piece s h renderer b segment bytes n passes at in
         subst (λ (m : ℕ). Brings s (heard h (events.Segment renderer b segment bytes) answer) (m ∷ brought s h)) (sym one.number)
@@ -371,8 +402,9 @@ brings_more s h (events.Segment renderer b segment bytes) answer passes before =
                 one.found,
                 (
                   segment,
-                  subst (λ (name : ℕ). slice_get (pieces_of s.limits.page h name) segment ≡ Some one.piece) (sym one.of_b) one.place,
-                  subst (λ (name : ℕ). has_come (arrivals (heard h (events.Segment renderer b segment bytes) answer) name) segment ≡ true) (sym one.of_b) has_now,
+                  subst (λ (name : ℕ). slice_get (pieces_of (page_limit s) h name) segment ≡ Some one.piece) (sym one.of_b) one.place,
+                  subst (λ (name : ℕ). has_come (arrivals (heard h (events.Segment renderer b segment bytes) answer) name) segment ≡ true) (sym one.of_b)
+                      has_now,
                 ),
               ))
               (λ (old : is_among m (brought s h) ≡ true). next.came m old) (or_cases (one.piece.number == m) (is_among m (brought s h)) e);
@@ -382,7 +414,8 @@ brings_more s h (events.Segment renderer b segment bytes) answer passes before =
         fresh one false e = e
         fresh one true e = let other = before.came one.piece.number e in absurd (came_once s h b segment one (other.0) other.1 other.2)
 
-    go : (plan : Option Plan) → plan_in s h b ≡ plan → Brings s (heard h (events.Segment renderer b segment bytes) answer) (brought_after plan (piece_at s h b segment) (brought s h))
+    go : (plan : Option Plan) → plan_in s h b ≡ plan → Brings s (heard h (events.Segment renderer b segment bytes) answer)
+        (brought_after plan (piece_at s h b segment) (brought s h))
     go (Some (plans.File n)) at = filed n at
     go None at = next
     go (Some plans.None) at = next
@@ -401,7 +434,7 @@ brings s (said h answer) caused = brings_on s h (said h answer) (brought s h) (g
 pub pages_low : (s : Session) (h : History) → IsCaused s h → next_page h ≤ 196608
 pages_low s h caused =
     let one = brings s h caused in
-    let few = few_below (brought s h) (length (pieces s.limits.page h)) one.apart (λ n e. let there = one.came n e in piece_low s h n (there.0) there.1) in
+    let few = few_below (brought s h) (length (pieces (page_limit s) h)) one.apart (λ n e. let there = one.came n e in piece_low s h n (there.0) there.1) in
     let totals = totals_hold s h caused in
     let most = totals.all_pieces in
     let segments = stores_few s h caused in

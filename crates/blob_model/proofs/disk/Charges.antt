@@ -14,11 +14,13 @@ use Rattle.blob_model.proofs.memory.Builds.{sum_where}
 -- ---- sums and tests over lists
 
 -- a stronger test sums less
-pub sum_up : {X : Type 0} (f : X → ℕ) (p q : X → Bool) (xs : List X) → AllByRecursion (λ (x : X). p x ≡ true → q x ≡ true) xs → sum_by f (filter p xs) ≤ sum_by f (filter q xs)
+pub sum_up : {X : Type 0} (f : X → ℕ) (p q : X → Bool) (xs : List X) → AllByRecursion (λ (x : X). p x ≡ true → q x ≡ true) xs → sum_by f (filter p xs) ≤ sum_by
+    f (filter q xs)
 sum_up f p q [] all = omega arith
 sum_up {X = X} f p q (x ∷ xs) all = go (p x) (q x) all.0 (sum_up f p q xs all.1)
   where
-    go : (a b : Bool) → (a ≡ true → b ≡ true) → sum_by f (filter p xs) ≤ sum_by f (filter q xs) → sum_by f (cond a (x ∷ filter p xs) (filter p xs)) ≤ sum_by f (cond b (x ∷ filter q xs) (filter q xs))
+    go : (a b : Bool) → (a ≡ true → b ≡ true) → sum_by f (filter p xs) ≤ sum_by f (filter q xs) → sum_by f (cond a (x ∷ filter p xs) (filter p xs)) ≤ sum_by f
+        (cond b (x ∷ filter q xs) (filter q xs))
     go true false e rest = absurd (false_true (e refl))
     go true true e rest = let left = sum_by-cons f x (filter p xs) in let right = sum_by-cons f x (filter q xs) in omega (arith, left, right, rest)
     go false true e rest = let right = sum_by-cons f x (filter q xs) in omega (arith, right, rest)
@@ -40,7 +42,8 @@ some_up {X = X} p' q' p q xs all e =
     lt-ltb 0 (length (filter p (filter q xs))) (omega (arith, low, left, right, here))
 
 -- an item that passes a test among those that pass one filter is among those that pass another
-pub any_filtered : {X : Type 0} (t r' r : X → Bool) (xs : List X) → AllByRecursion (λ (x : X). t x ≡ true → r' x ≡ true → r x ≡ true) xs → list_any t (filter r' xs) ≡ true → list_any t (filter r xs) ≡ true
+pub any_filtered : {X : Type 0} (t r' r : X → Bool) (xs : List X) → AllByRecursion (λ (x : X). t x ≡ true → r' x ≡ true → r x ≡ true) xs
+    → list_any t (filter r' xs) ≡ true → list_any t (filter r xs) ≡ true
 any_filtered t r' r [] all e = e
 any_filtered {X = X} t r' r (x ∷ xs) all e = go (r' x) (r x) (t x) refl all.0 e (any_filtered t r' r xs all.1)
   where
@@ -48,7 +51,8 @@ any_filtered {X = X} t r' r (x ∷ xs) all e = go (r' x) (r x) (t x) refl all.0 
     here true c at f = or_second (t x) (list_any t (filter r xs)) f
     here false c at f = f
 
-    go : (a b c : Bool) → t x ≡ c → (c ≡ true → a ≡ true → b ≡ true) → list_any t (cond a (x ∷ filter r' xs) (filter r' xs)) ≡ true → (list_any t (filter r' xs) ≡ true → list_any t (filter r xs) ≡ true)
+    go : (a b c : Bool) → t x ≡ c → (c ≡ true → a ≡ true → b ≡ true) → list_any t (cond a (x ∷ filter r' xs) (filter r' xs)) ≡ true
+        → (list_any t (filter r' xs) ≡ true → list_any t (filter r xs) ≡ true)
         → list_any t (cond b (x ∷ filter r xs) (filter r xs)) ≡ true
     go false b c at up f rest = here b c at (rest f)
     go true b false at up f rest = here b false at (rest (ap (λ (z : Bool). z || list_any t (filter r' xs)) (sym at) ∙ f))
@@ -110,18 +114,31 @@ charge_less written flying blobs all r' r up =
     let files : in_files written written blobs all (filter r' all) ≤ in_files written written blobs all (filter r all) =
     sum_up (page_size all) (has_some written blobs (filter r' all)) (has_some written blobs (filter r all)) written
     (each_page written (λ file e.
-    some_up (λ (piece : Piece). is_page file.number (place_at written blobs piece)) r' (λ (piece : Piece). is_page file.number (place_at written blobs piece)) r all
+    some_up (λ (piece : Piece). is_page file.number (place_at written blobs piece)) r' (λ (piece : Piece). is_page file.number (place_at written blobs piece)) r
+    all
     (for_each (λ (piece : Piece). r' piece ≡ true → is_charged written flying blobs piece ≡ true → r piece ≡ true)
-    (λ (piece : Piece). is_page file.number (place_at written blobs piece) ≡ true → r' piece ≡ true → (is_page file.number (place_at written blobs piece) ≡ true) × (r piece ≡ true)) all
-    (λ piece f at reach. (at, f reach (or_first (not (is_memory (place_at written blobs piece))) (list_any (λ (each : ℕ). each == piece.number) flying) (paged_out file.number (place_at written blobs piece) at)))) up) e)) in
+    (λ (piece : Piece). is_page file.number (place_at written blobs piece) ≡ true → r' piece ≡ true
+    → (is_page file.number (place_at written blobs piece) ≡ true) × (r piece ≡ true)) all
+    (λ piece f at reach. (
+      at,
+      f reach (or_first (not (is_memory (place_at written blobs piece))) (list_any (λ (each : ℕ). each == piece.number) flying)
+          (paged_out file.number (place_at written blobs piece) at)),
+    )) up) e)) in
     let reserve : in_reserve written blobs (filter r' all) ≤ in_reserve written blobs (filter r all) =
-    sum_where (λ (piece : Piece). piece.len) (λ (piece : Piece). is_reserved (place_at written blobs piece)) r' (λ (piece : Piece). is_reserved (place_at written blobs piece)) r all
+    sum_where (λ (piece : Piece). piece.len) (λ (piece : Piece). is_reserved (place_at written blobs piece)) r'
+    (λ (piece : Piece). is_reserved (place_at written blobs piece)) r all
     (for_each (λ (piece : Piece). r' piece ≡ true → is_charged written flying blobs piece ≡ true → r piece ≡ true)
-    (λ (piece : Piece). is_reserved (place_at written blobs piece) ≡ true → r' piece ≡ true → (is_reserved (place_at written blobs piece) ≡ true) × (r piece ≡ true)) all
-    (λ piece f at reach. (at, f reach (or_first (not (is_memory (place_at written blobs piece))) (list_any (λ (each : ℕ). each == piece.number) flying) (kept_out (place_at written blobs piece) at)))) up) in
+    (λ (piece : Piece). is_reserved (place_at written blobs piece) ≡ true → r' piece ≡ true → (is_reserved (place_at written blobs piece) ≡ true)
+    × (r piece ≡ true)) all
+    (λ piece f at reach. (
+      at,
+      f reach (or_first (not (is_memory (place_at written blobs piece))) (list_any (λ (each : ℕ). each == piece.number) flying)
+          (kept_out (place_at written blobs piece) at)),
+    )) up) in
     let job : in_job flying all (filter r' all) ≤ in_job flying all (filter r all) =
     sum_up (length_in all) (has_number (filter r' all)) (has_number (filter r all)) flying
-    (for_each (λ (n : ℕ). list_any (λ (each : ℕ). each == n) flying ≡ true) (λ (n : ℕ). has_number (filter r' all) n ≡ true → has_number (filter r all) n ≡ true) flying
+    (for_each (λ (n : ℕ). list_any (λ (each : ℕ). each == n) flying ≡ true) (λ (n : ℕ). has_number (filter r' all) n ≡ true → has_number (filter r all) n
+    ≡ true) flying
     (λ n member e. any_filtered (λ (piece : Piece). piece.number == n) r' r all
     (for_each (λ (piece : Piece). r' piece ≡ true → is_charged written flying blobs piece ≡ true → r piece ≡ true)
     (λ (piece : Piece). (piece.number == n) ≡ true → r' piece ≡ true → r piece ≡ true) all
@@ -137,7 +154,8 @@ charge_less written flying blobs all r' r up =
 -- ---- one page file more
 
 -- the last page file that lists a piece is the new one, or as before
-pub page_more : (written : List Page) (file : Page) (number : ℕ) → page_with (written ++ file ∷ []) number ≡ cond (lists file number) (Some file) (page_with written number)
+pub page_more : (written : List Page) (file : Page) (number : ℕ) → page_with (written ++ file ∷ []) number ≡ cond (lists file number) (Some file)
+    (page_with written number)
 page_more written file number = ap (find (λ (page : Page). lists page number)) (reverse-append written (file ∷ []))
 
 -- the charge of page files with one more
@@ -147,26 +165,33 @@ files_more [] written blobs all list file = omega arith
 files_more (each ∷ some) written blobs all list file = go (has_some written blobs list each) (files_more some written blobs all list file)
   where
     go : (b : Bool) → in_files (some ++ file ∷ []) written blobs all list ≤ in_files some written blobs all list + in_files (file ∷ []) written blobs all list
-        → sum_by (page_size all) (cond b (each ∷ filter (has_some written blobs list) (some ++ file ∷ [])) (filter (has_some written blobs list) (some ++ file ∷ [])))
-        ≤ sum_by (page_size all) (cond b (each ∷ filter (has_some written blobs list) some) (filter (has_some written blobs list) some)) + in_files (file ∷ []) written blobs all list
-    go true rest = let left = sum_by-cons (page_size all) each (filter (has_some written blobs list) (some ++ file ∷ [])) in let right = sum_by-cons (page_size all) each (filter (has_some written blobs list) some) in omega (arith, left, right, rest)
+        → sum_by (page_size all) (cond b (each ∷ filter (has_some written blobs list) (some ++ file ∷ []))
+        (filter (has_some written blobs list) (some ++ file ∷ [])))
+        ≤ sum_by (page_size all) (cond b (each ∷ filter (has_some written blobs list) some) (filter (has_some written blobs list) some)) + in_files (file ∷ [])
+        written blobs all list
+    go true rest = let left = sum_by-cons (page_size all) each (filter (has_some written blobs list) (some ++ file ∷ [])) in
+        let right = sum_by-cons (page_size all) each (filter (has_some written blobs list) some) in omega (arith, left, right, rest)
     go false rest = rest
 
 -- a page file of another number holds what it held
 pub other_before : (written : List Page) (blobs : List Build) (file : Page) (number : ℕ) (piece : Piece) → (file.number == number) ≡ false
     → is_page number (place_at (written ++ file ∷ []) blobs piece) ≡ true → is_page number (place_at written blobs piece) ≡ true
-other_before written blobs file number piece other e = go (lists file piece.number) (ap (λ (o : Option Page). is_page number (place_by o (build_in blobs piece.blob))) (sym (page_more written file piece.number)) ∙ e)
+other_before written blobs file number piece other e = go (lists file piece.number)
+    (ap (λ (o : Option Page). is_page number (place_by o (build_in blobs piece.blob))) (sym (page_more written file piece.number)) ∙ e)
   where
-    go : (b : Bool) → is_page number (place_by (cond b (Some file) (page_with written piece.number)) (build_in blobs piece.blob)) ≡ true → is_page number (place_at written blobs piece) ≡ true
+    go : (b : Bool) → is_page number (place_by (cond b (Some file) (page_with written piece.number)) (build_in blobs piece.blob)) ≡ true
+        → is_page number (place_at written blobs piece) ≡ true
     go true f = absurd (false_true (sym other ∙ f))
     go false f = f
 
 -- what is still reserved was reserved
 pub reserved_before : (written : List Page) (blobs : List Build) (file : Page) (piece : Piece)
     → is_reserved (place_at (written ++ file ∷ []) blobs piece) ≡ true → is_reserved (place_at written blobs piece) ≡ true
-reserved_before written blobs file piece e = go (lists file piece.number) (ap (λ (o : Option Page). is_reserved (place_by o (build_in blobs piece.blob))) (sym (page_more written file piece.number)) ∙ e)
+reserved_before written blobs file piece e = go (lists file piece.number)
+    (ap (λ (o : Option Page). is_reserved (place_by o (build_in blobs piece.blob))) (sym (page_more written file piece.number)) ∙ e)
   where
-    go : (b : Bool) → is_reserved (place_by (cond b (Some file) (page_with written piece.number)) (build_in blobs piece.blob)) ≡ true → is_reserved (place_at written blobs piece) ≡ true
+    go : (b : Bool) → is_reserved (place_by (cond b (Some file) (page_with written piece.number)) (build_in blobs piece.blob)) ≡ true
+        → is_reserved (place_at written blobs piece) ≡ true
     go true f = absurd (false_true f)
     go false f = f
 
@@ -176,13 +201,16 @@ IsNew file written = AllByRecursion (λ (page : Page). (file.number == page.numb
 
 -- the other page files and what is reserved hold no more than before
 pub files_written : (written : List Page) (file : Page) (blobs : List Build) (all : List Piece) (r : Piece → Bool) → IsNew file written
-    → in_files (written ++ file ∷ []) (written ++ file ∷ []) blobs all (filter r all) ≤ in_files written written blobs all (filter r all) + in_files (file ∷ []) (written ++ file ∷ []) blobs all (filter r all)
+    → in_files (written ++ file ∷ []) (written ++ file ∷ []) blobs all (filter r all) ≤ in_files written written blobs all (filter r all) + in_files (file ∷ [])
+    (written ++ file ∷ []) blobs all (filter r all)
 files_written written file blobs all r fresh =
     let more = files_more written (written ++ file ∷ []) blobs all (filter r all) file in
     let old : in_files written (written ++ file ∷ []) blobs all (filter r all) ≤ in_files written written blobs all (filter r all) =
     sum_up (page_size all) (has_some (written ++ file ∷ []) blobs (filter r all)) (has_some written blobs (filter r all)) written
-    (for_each (λ (page : Page). (file.number == page.number) ≡ false) (λ (page : Page). has_some (written ++ file ∷ []) blobs (filter r all) page ≡ true → has_some written blobs (filter r all) page ≡ true) written
-    (λ page other e. some_up (λ (piece : Piece). is_page page.number (place_at (written ++ file ∷ []) blobs piece)) r (λ (piece : Piece). is_page page.number (place_at written blobs piece)) r all
+    (for_each (λ (page : Page). (file.number == page.number) ≡ false) (λ (page : Page). has_some (written ++ file ∷ []) blobs (filter r all) page ≡ true
+    → has_some written blobs (filter r all) page ≡ true) written
+    (λ page other e. some_up (λ (piece : Piece). is_page page.number (place_at (written ++ file ∷ []) blobs piece)) r
+    (λ (piece : Piece). is_page page.number (place_at written blobs piece)) r all
     (each_piece all (λ piece at reach. (other_before written blobs file page.number piece other at, reach))) e) fresh) in
     omega (arith, more, old)
 
@@ -190,11 +218,13 @@ files_written written file blobs all r fresh =
 pub reserve_written : (written : List Page) (file : Page) (blobs : List Build) (all : List Piece) (r : Piece → Bool)
     → in_reserve (written ++ file ∷ []) blobs (filter r all) ≤ in_reserve written blobs (filter r all)
 reserve_written written file blobs all r =
-    sum_up (λ (piece : Piece). piece.len) (λ (piece : Piece). is_reserved (place_at (written ++ file ∷ []) blobs piece)) (λ (piece : Piece). is_reserved (place_at written blobs piece)) (filter r all)
+    sum_up (λ (piece : Piece). piece.len) (λ (piece : Piece). is_reserved (place_at (written ++ file ∷ []) blobs piece))
+    (λ (piece : Piece). is_reserved (place_at written blobs piece)) (filter r all)
     (each_piece (filter r all) (λ piece at. reserved_before written blobs file piece at))
 
 -- one page file is charged at most its size
-pub file_most : (file : Page) (written : List Page) (blobs : List Build) (all list : List Piece) → in_files (file ∷ []) written blobs all list ≤ page_size all file
+pub file_most : (file : Page) (written : List Page) (blobs : List Build) (all list : List Piece) → in_files (file ∷ []) written blobs all list ≤ page_size all
+    file
 file_most file written blobs all list = go (has_some written blobs list file)
   where
     go : (b : Bool) → sum_by (page_size all) (cond b (file ∷ []) []) ≤ page_size all file

@@ -11,7 +11,7 @@ use Rattle.session_script.specs.declared.event.Event.TheVariants as events
 use Rattle.answer_text.specs.declared.answer.Answer.{Answer}
 use Rattle.answer_text.specs.declared.answer.Answer.TheVariants as answers
 use Rattle.answer_text.specs.declared.refusal.Refusal.{Refusal}
-use Rattle.blob_model.specs.Session.{Session}
+use Rattle.blob_model.specs.Session.{Session, page_limit}
 use Rattle.blob_model.specs.History.{History, heard, refused, said, heard_first, said_all, after}
 use Rattle.blob_model.specs.Builds.{Cell, sent, filed, lent}
 use Rattle.blob_model.specs.Standing.{ended, was_granted}
@@ -68,28 +68,34 @@ place_dry reader reserved = tt
 
 piece_dry : (s : Session) (h : History) (reader : ReaderId) (piece : Option Piece) → EachDry (sent_fault s h reader piece)
 piece_dry s h reader None = tt
-piece_dry s h reader (Some piece) = place_dry reader (place s.limits.page h piece)
+piece_dry s h reader (Some piece) = place_dry reader (place (page_limit s) h piece)
 
 cell_dry : (s : Session) (h : History) (reader : ReaderId) (cell : Cell) → EachDry (cell_fault s h reader cell)
-cell_dry s h reader (sent blob index) = piece_dry s h reader (piece_with (pieces s.limits.page h) (sent blob index))
+cell_dry s h reader (sent blob index) = piece_dry s h reader (piece_with (pieces (page_limit s) h) (sent blob index))
 cell_dry s h reader (filed name stamp index) = tt
 cell_dry s h reader (lent slot index) = ((refl, tt), tt)
 
 read_dry : (s : Session) (h : History) (reader : ReaderId) (cells : List Cell) → EachDry (read_faults s h reader cells)
 read_dry s h reader [] = tt
-read_dry s h reader (cell ∷ cells) = dry_append (cell_fault s h reader cell) (read_faults s h reader cells) (cell_dry s h reader cell) (read_dry s h reader cells)
+read_dry s h reader (cell ∷ cells) = dry_append (cell_fault s h reader cell) (read_faults s h reader cells) (cell_dry s h reader cell)
+    (read_dry s h reader cells)
 
-chunk_dry : (s : Session) (h : History) (reader : ReaderId) (cells : List Cell) (first : Option Cell) (own : List Answer) → IsRead s h reader cells first own → AllDry own
+chunk_dry : (s : Session) (h : History) (reader : ReaderId) (cells : List Cell) (first : Option Cell) (own : List Answer) → IsRead s h reader cells first own
+    → AllDry own
 chunk_dry s h reader cells None own (inl given) = subst AllDry (sym given.1) (refl, tt)
 chunk_dry s h reader cells None own (inr fault) = dry_one own (read_faults s h reader cells) (read_dry s h reader cells) fault
 chunk_dry s h reader cells (Some cell) own one =
-    dry_one own ((answers.FileChanged reader (file_of cell) ∷ []) ∷ read_faults s h reader (before_failing h cells)) ((refl, tt), read_dry s h reader (before_failing h cells)) one
+    dry_one own ((answers.FileChanged reader (file_of cell) ∷ []) ∷ read_faults s h reader (before_failing h cells))
+    ((refl, tt), read_dry s h reader (before_failing h cells)) one
 
-next_dry : (s : Session) (h : History) (reader : ReaderId) (open_reader : OpenReader) (more : ℕ) (own : List Answer) → IsNext s h reader open_reader more own → AllDry own
+next_dry : (s : Session) (h : History) (reader : ReaderId) (open_reader : OpenReader) (more : ℕ) (own : List Answer) → IsNext s h reader open_reader more own
+    → AllDry own
 next_dry s h reader open_reader zero own e = subst AllDry (sym e) (refl, tt)
-next_dry s h reader open_reader (suc more) own one = chunk_dry s h reader (chunk s.limits h open_reader) (first_failing h (chunk s.limits h open_reader)) own one
+next_dry s h reader open_reader (suc more) own one = chunk_dry s h reader (chunk s.limits h open_reader) (first_failing h (chunk s.limits h open_reader)) own
+    one
 
-step_dry : (s : Session) (h : History) (reader : ReaderId) (open_reader : OpenReader) (status : Option Status) (own : List Answer) → IsStepBy s h reader open_reader status own → AllDry own
+step_dry : (s : Session) (h : History) (reader : ReaderId) (open_reader : OpenReader) (status : Option Status) (own : List Answer)
+    → IsStepBy s h reader open_reader status own → AllDry own
 step_dry s h reader open_reader None own e = subst AllDry (sym e) (refl, tt)
 step_dry s h reader open_reader (Some statuses.Done) own one = next_dry s h reader open_reader (left open_reader) own one
 step_dry s h reader open_reader (Some status) own e = subst AllDry (sym e) (refl, tt)
@@ -108,13 +114,15 @@ is_paper (events.Segment renderer b segment bytes) = true
 is_paper (events.Disk job) = true
 is_paper event = false
 
-pub line_dry : (s : Session) (h : History) (event : Event) (own : List Answer) → is_build event ≡ false → is_paper event ≡ false → IsAccepted s h event own → AllDry own
+pub line_dry : (s : Session) (h : History) (event : Event) (own : List Answer) → is_build event ≡ false → is_paper event ≡ false → IsAccepted s h event own
+    → AllDry own
 line_dry s h (events.Build renderer name kind parts) own other paper one = absurd (false_true (sym other))
 line_dry s h (events.Slice renderer name source from to kind) own other paper one = absurd (false_true (sym other))
-line_dry s h (events.Step reader) own other paper one = found_dry s h reader (reader_at s.limits.page h reader.0) own one
+line_dry s h (events.Step reader) own other paper one = found_dry s h reader (reader_at (page_limit s) h reader.0) own one
 line_dry s h (events.Segment renderer b segment bytes) own other paper one = absurd (false_true (sym paper))
 line_dry s h (events.Disk job) own other paper one = absurd (false_true (sym paper))
-line_dry s h (events.Revoke renderer text) own other paper one = dry_one own (accepted s h (events.Revoke renderer text) ∷ []) ((revoke_dry (owns_entry h renderer.0 text), tt), tt) one
+line_dry s h (events.Revoke renderer text) own other paper one = dry_one own (accepted s h (events.Revoke renderer text) ∷ [])
+    ((revoke_dry (owns_entry h renderer.0 text), tt), tt) one
 line_dry s h event own other paper one = dry_one own (accepted s h event ∷ failing s h event) ((refl, tt), tt) one
 
 -- ---- dry answers keep the limit
@@ -172,7 +180,7 @@ more_came event name k before e = e
 
 pub follows_heard : (s : Session) (h : History) (event : Event) (answer : Answer) → is_build event ≡ false → Follows s h (heard h event answer)
 follows_heard s h event answer other = record {
-  blobs = (change_laws.blobs s.limits.page).by_line h event answer other;
+  blobs = (change_laws.blobs (page_limit s)).by_line h event answer other;
   granted = λ name e. still_granted answer name (was_granted h name) e;
   came = λ name k e. more_came event name k (arrivals h name) e;
 }
@@ -180,25 +188,30 @@ follows_heard s h event answer other = record {
 dry_said : (s : Session) (h : History) (answer : Answer) → is_dry answer ≡ true → Fits s h → Fits s (said h answer)
 dry_said s h answer dry fits =
     let part = dry_flying answer (in_flight h) dry in
-    let less = disk_shrinks s.limits.page h (said h answer) (plain_said s.limits.page h answer (dry_is_plain answer dry)) (dry_pages answer (pages h) dry) part in
+    let less = disk_shrinks (page_limit s) h (said h answer) (plain_said (page_limit s) h answer (dry_is_plain answer dry)) (dry_pages answer (pages h) dry)
+    part in
     let before = fits.1 in (
-      stocked_less s h (said h answer) (follows_all s h (answer ∷ [])) (dry_pages answer (pages h) dry) (next_more answer (next_page h)) part (part_apart (flying (said h answer)) (flying h) part fits.0.job_apart) fits.0,
+      stocked_less s h (said h answer) (follows_all s h (answer ∷ [])) (dry_pages answer (pages h) dry) (next_more answer (next_page h)) part
+          (part_apart (flying (said h answer)) (flying h) part fits.0.job_apart) fits.0,
       omega (arith, less, before),
     )
 
-pub dry_heard : (s : Session) (h : History) (event : Event) (answer : Answer) → HoldersSpawned h → refusal s h event ≡ None → is_build event ≡ false → is_dry answer ≡ true → Fits s h → Fits s (heard h event answer)
+pub dry_heard : (s : Session) (h : History) (event : Event) (answer : Answer) → HoldersSpawned h → refusal s h event ≡ None → is_build event ≡ false
+    → is_dry answer ≡ true → Fits s h → Fits s (heard h event answer)
 dry_heard s h event answer holders accepted other dry fits =
     let part = dry_flying answer (in_flight h) dry in
-    let less = disk_shrinks s.limits.page h (heard h event answer) (plain_heard s h event answer holders accepted other (dry_is_plain answer dry)) (dry_pages answer (pages h) dry) part in
+    let less = disk_shrinks (page_limit s) h (heard h event answer) (plain_heard s h event answer holders accepted other (dry_is_plain answer dry))
+    (dry_pages answer (pages h) dry) part in
     let before = fits.1 in (
-      stocked_less s h (heard h event answer) (follows_heard s h event answer other) (dry_pages answer (pages h) dry) (next_more answer (next_page h)) part (part_apart (flying (heard h event answer)) (flying h) part fits.0.job_apart) fits.0,
+      stocked_less s h (heard h event answer) (follows_heard s h event answer other) (dry_pages answer (pages h) dry) (next_more answer (next_page h)) part
+          (part_apart (flying (heard h event answer)) (flying h) part fits.0.job_apart) fits.0,
       omega (arith, less, before),
     )
 
 -- a refused line changes nothing
 pub refused_fits : (s : Session) (h : History) (event : Event) (why : Refusal) → Fits s h → Fits s (refused h event why)
 refused_fits s h event why fits =
-    let same : disk s.limits.page (refused h event why) ≡ disk s.limits.page h = ap (λ (t : Tally). t.disk) (tally_over s h event why) in
+    let same : disk (page_limit s) (refused h event why) ≡ disk (page_limit s) h = ap (λ (t : Tally). t.disk) (tally_over s h event why) in
     let before = fits.1 in (
       record {
         low = fits.0.low;
@@ -209,7 +222,8 @@ refused_fits s h event why fits =
       omega (arith, same, before),
     )
 
-dry_first : (s : Session) (h : History) (event : Event) (answer : Answer) → HoldersSpawned h → refusal s h event ≡ None → is_build event ≡ false → is_dry answer ≡ true → Fits s h → Fits s (heard_first h event answer)
+dry_first : (s : Session) (h : History) (event : Event) (answer : Answer) → HoldersSpawned h → refusal s h event ≡ None → is_build event ≡ false → is_dry answer
+    ≡ true → Fits s h → Fits s (heard_first h event answer)
 dry_first s h event (answers.Refused why) holders accepted other dry fits = refused_fits s h event why fits
 dry_first s h event answer holders accepted other dry fits = dry_heard s h event answer holders accepted other dry fits
 
@@ -217,6 +231,8 @@ dry_all : (s : Session) (h : History) (list : List Answer) → AllDry list → F
 dry_all s h [] all fits = fits
 dry_all s h (answer ∷ list) all fits = dry_all s (said h answer) list all.1 (dry_said s h answer all.0 fits)
 
-pub dry_line : (s : Session) (h : History) (event : Event) (own : List Answer) → HoldersSpawned h → refusal s h event ≡ None → is_build event ≡ false → AllDry own → Fits s h → Fits s (after h event own)
+pub dry_line : (s : Session) (h : History) (event : Event) (own : List Answer) → HoldersSpawned h → refusal s h event ≡ None → is_build event ≡ false
+    → AllDry own → Fits s h → Fits s (after h event own)
 dry_line s h event [] holders accepted other all fits = fits
-dry_line s h event (answer ∷ more) holders accepted other all fits = dry_all s (heard_first h event answer) more all.1 (dry_first s h event answer holders accepted other all.0 fits)
+dry_line s h event (answer ∷ more) holders accepted other all fits = dry_all s (heard_first h event answer) more all.1
+    (dry_first s h event answer holders accepted other all.0 fits)

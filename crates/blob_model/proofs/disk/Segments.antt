@@ -12,7 +12,7 @@ use Rattle.answer_text.specs.declared.answer.Answer.{Answer}
 use Rattle.answer_text.specs.declared.answer.Answer.TheVariants as answers
 use Rattle.answer_text.specs.declared.refusal.Refusal.{Refusal}
 use Rattle.transport_plan.specs.Spans.{segment_spans}
-use Rattle.blob_model.specs.Session.{Session}
+use Rattle.blob_model.specs.Session.{Session, page_limit}
 use Rattle.blob_model.specs.History.{History, heard, said}
 use Rattle.blob_model.specs.Parts.{own_lengths}
 use Rattle.blob_model.specs.Builds.{Build, builds, build_in}
@@ -48,8 +48,11 @@ AreRising (piece ∷ more) = AllByRecursion (λ (other : Piece). piece.number < 
 pub numbered_rising : (n : ℕ) (list : List Piece) → AreNumbered n list → AreRising list
 numbered_rising n [] all = tt
 numbered_rising n (piece ∷ list) all =
-    let here = all.0 in
-    (for_each (λ (other : Piece). n + 1 ≤ other.number) (λ (other : Piece). piece.number < other.number) list (λ other low. omega (arith, low, here)) (numbers_low (n + 1) list all.1), numbered_rising (n + 1) list all.1)
+    let here = all.0 in (
+      for_each (λ (other : Piece). n + 1 ≤ other.number) (λ (other : Piece). piece.number < other.number) list (λ other low. omega (arith, low, here))
+          (numbers_low (n + 1) list all.1),
+      numbered_rising (n + 1) list all.1,
+    )
 
 -- also where some are left out
 pub filter_rising : (test : Piece → Bool) (list : List Piece) → AreRising list → AreRising (filter test list)
@@ -84,27 +87,36 @@ length_two [] ys = omega arith
 length_two (x ∷ xs) ys = let rest = length_two xs ys in omega (arith, rest)
 
 -- the pieces of the blob itself
-numbered_length : (name blob number : ℕ) (list : List (ℕ × ℕ)) → (blob == name) ≡ true → length (filter (λ (piece : Piece). piece.blob == name) (numbered blob number list)) ≡ length list
+numbered_length : (name blob number : ℕ) (list : List (ℕ × ℕ)) → (blob == name) ≡ true
+    → length (filter (λ (piece : Piece). piece.blob == name) (numbered blob number list)) ≡ length list
 numbered_length name blob number [] e = refl
 numbered_length name blob number (span ∷ list) e =
     let rest = numbered_length name blob (number + 1) list e in
-    let head : length (filter (λ (piece : Piece). piece.blob == name) (numbered blob number (span ∷ list))) ≡ length (record { number = number; blob = blob; from = span.0; len = span.1 } ∷ filter (λ (piece : Piece). piece.blob == name) (numbered blob (number + 1) list)) =
-    (λ i. length (cond (e i) (record { number = number; blob = blob; from = span.0; len = span.1 } ∷ filter (λ (piece : Piece). piece.blob == name) (numbered blob (number + 1) list)) (filter (λ (piece : Piece). piece.blob == name) (numbered blob (number + 1) list)))) in
+    let head : length (filter (λ (piece : Piece). piece.blob == name) (numbered blob number (span ∷ list)))
+    ≡ length (record { number = number; blob = blob; from = span.0; len = span.1 } ∷ filter (λ (piece : Piece). piece.blob == name)
+    (numbered blob (number + 1) list)) =
+    (λ i. length (cond (e i) (record { number = number; blob = blob; from = span.0; len = span.1 } ∷ filter (λ (piece : Piece). piece.blob == name)
+    (numbered blob (number + 1) list)) (filter (λ (piece : Piece). piece.blob == name) (numbered blob (number + 1) list)))) in
     omega (arith, rest, head)
 
 -- a blob has at least a piece for each span
-pub spans_within : (page number name : ℕ) (list : List Build) (build : Build) → build_in list name ≡ Some build → length (spans_of page build) ≤ length (filter (λ (piece : Piece). piece.blob == name) (pieces_from page number list))
+pub spans_within : (page number name : ℕ) (list : List Build) (build : Build) → build_in list name ≡ Some build → length (spans_of page build) ≤ length
+    (filter (λ (piece : Piece). piece.blob == name) (pieces_from page number list))
 spans_within page number name [] build e = cc
 spans_within page number name (x ∷ list) build e = go (x.name == name) refl e (λ f. spans_within page (number + length (spans_of page x)) name list build f)
   where
     whole : length (filter (λ (piece : Piece). piece.blob == name) (pieces_from page number (x ∷ list)))
-        ≡ length (filter (λ (piece : Piece). piece.blob == name) (numbered x.name number (spans_of page x))) + length (filter (λ (piece : Piece). piece.blob == name) (pieces_from page (number + length (spans_of page x)) list))
+        ≡ length (filter (λ (piece : Piece). piece.blob == name) (numbered x.name number (spans_of page x))) + length
+        (filter (λ (piece : Piece). piece.blob == name) (pieces_from page (number + length (spans_of page x)) list))
     whole =
-        ap length (filter_append (λ (piece : Piece). piece.blob == name) (numbered x.name number (spans_of page x)) (pieces_from page (number + length (spans_of page x)) list))
-        ∙ length_two (filter (λ (piece : Piece). piece.blob == name) (numbered x.name number (spans_of page x))) (filter (λ (piece : Piece). piece.blob == name) (pieces_from page (number + length (spans_of page x)) list))
+        ap length (filter_append (λ (piece : Piece). piece.blob == name) (numbered x.name number (spans_of page x))
+        (pieces_from page (number + length (spans_of page x)) list))
+        ∙ length_two (filter (λ (piece : Piece). piece.blob == name) (numbered x.name number (spans_of page x)))
+        (filter (λ (piece : Piece). piece.blob == name) (pieces_from page (number + length (spans_of page x)) list))
 
     go : (b : Bool) → (x.name == name) ≡ b → cond b (Some x) (build_in list name) ≡ Some build
-        → (build_in list name ≡ Some build → length (spans_of page build) ≤ length (filter (λ (piece : Piece). piece.blob == name) (pieces_from page (number + length (spans_of page x)) list)))
+        → (build_in list name ≡ Some build → length (spans_of page build) ≤ length
+        (filter (λ (piece : Piece). piece.blob == name) (pieces_from page (number + length (spans_of page x)) list)))
         → length (spans_of page build) ≤ length (filter (λ (piece : Piece). piece.blob == name) (pieces_from page number (x ∷ list)))
     go true at f rest =
         let same : x ≡ build = cc in
@@ -115,12 +127,16 @@ spans_within page number name (x ∷ list) build e = go (x.name == name) refl e 
 
 -- ---- the stored piece
 
-stored_by : (s : Session) (h : History) (renderer : RendererId) (b segment : ℕ) (bytes : List ℕ) (n : ℕ) (build : Build) → HoldersSpawned h → refusal s h (events.Segment renderer b segment bytes) ≡ None
-    → build_in (builds s.limits.page h) b ≡ Some build → build.plan ≡ Some (plans.File n) → is_granted h build ≡ true → segment < length (spans s.limits build) → has_come (arrivals h b) segment ≡ false
-    → Fits s h → Fits s (said (heard h (events.Segment renderer b segment bytes) (answers.Taken segment)) (answers.Stored (page_no (next_page h)) (piece_no (piece_at s h b segment))))
+stored_by : (s : Session) (h : History) (renderer : RendererId) (b segment : ℕ) (bytes : List ℕ) (n : ℕ) (build : Build) → HoldersSpawned h
+    → refusal s h (events.Segment renderer b segment bytes) ≡ None
+    → build_in (builds (page_limit s) h) b ≡ Some build → build.plan ≡ Some (plans.File n) → is_granted h build ≡ true → segment < length (spans s.limits build)
+    → has_come (arrivals h b) segment ≡ false
+    → Fits s h → Fits s (said (heard h (events.Segment renderer b segment bytes) (answers.Taken segment))
+    (answers.Stored (page_no (next_page h)) (piece_no (piece_at s h b segment))))
 stored_by s h renderer b segment bytes n build holders accepted at plan granted low fresh fits =
     let first : Fits s next = dry_heard s h (events.Segment renderer b segment bytes) (answers.Taken segment) holders accepted refl refl fits in
-    piece_written s next (said next stored) (record { number = next_page h; pieces = piece_at s h b segment ∷ [] }) piece (follows_all s next (stored ∷ [])) (plain_said s.limits.page next stored refl) refl refl refl refl alone found unlisted filed known first
+    piece_written s next (said next stored) (record { number = next_page h; pieces = piece_at s h b segment ∷ [] }) piece (follows_all s next (stored ∷ []))
+    (plain_said (page_limit s) next stored refl) refl refl refl refl alone found unlisted filed known first
   where
     next : History
     next = heard h (events.Segment renderer b segment bytes) (answers.Taken segment)
@@ -129,15 +145,16 @@ stored_by s h renderer b segment bytes n build holders accepted at plan granted 
     stored = answers.Stored (page_no (next_page h)) (piece_no (piece_at s h b segment))
 
     same_name : build.name ≡ b
-    same_name = found_name (builds s.limits.page h) b build at
+    same_name = found_name (builds (page_limit s) h) b build at
 
     -- the piece at the place of the segment
-    place_of : (piece : Piece) × (slice_get (pieces_of s.limits.page h b) segment ≡ Some piece)
+    place_of : (piece : Piece) × (slice_get (pieces_of (page_limit s) h b) segment ≡ Some piece)
     place_of =
-        let equal : length (spans s.limits build) ≡ length (spans_of s.limits.page build) =
-        (λ i. length (option_map_or (λ (p : Plan). segment_spans (own_lengths build.parts) p s.limits) (plan i) [])) ∙ sym (λ i. length (planned_spans s.limits.page build (plan i))) in
-        let within = spans_within s.limits.page 0 b (builds s.limits.page h) build at in
-        get_there (pieces_of s.limits.page h b) segment (omega (arith, low, equal, within))
+        let equal : length (spans s.limits build) ≡ length (spans_of (page_limit s) build) =
+        (λ i. length (option_map_or (λ (p : Plan). segment_spans (own_lengths build.parts) p s.limits) (plan i) [])) ∙ sym
+        (λ i. length (planned_spans (page_limit s) build (plan i))) in
+        let within = spans_within (page_limit s) 0 b (builds (page_limit s) h) build at in
+        get_there (pieces_of (page_limit s) h b) segment (omega (arith, low, equal, within))
 
     piece : Piece
     piece = place_of.0
@@ -145,31 +162,37 @@ stored_by s h renderer b segment bytes n build holders accepted at plan granted 
     alone : piece_at s h b segment ∷ [] ≡ piece.number ∷ []
     alone = ap (λ (o : Option Piece). option_map_or (λ (each : Piece). each.number) o 0 ∷ []) place_of.1
 
-    both_facts : FoundIn (pieces s.limits.page h) piece.number piece × ((piece.blob == b) ≡ true)
+    both_facts : FoundIn (pieces (page_limit s) h) piece.number piece × ((piece.blob == b) ≡ true)
     both_facts =
-        get_all (λ (each : Piece). FoundIn (pieces s.limits.page h) each.number each × ((each.blob == b) ≡ true)) (pieces_of s.limits.page h b) segment piece
-        (filter_has (λ (each : Piece). FoundIn (pieces s.limits.page h) each.number each) (λ (each : Piece). each.blob == b) (pieces s.limits.page h) (all_pieces s h)) place_of.1
+        get_all (λ (each : Piece). FoundIn (pieces (page_limit s) h) each.number each × ((each.blob == b) ≡ true)) (pieces_of (page_limit s) h b) segment piece
+        (filter_has (λ (each : Piece). FoundIn (pieces (page_limit s) h) each.number each) (λ (each : Piece). each.blob == b) (pieces (page_limit s) h)
+        (all_pieces s h)) place_of.1
 
-    found : FoundIn (pieces s.limits.page h) piece.number piece
+    found : FoundIn (pieces (page_limit s) h) piece.number piece
     found = both_facts.0
 
     of_b : piece.blob ≡ b
     of_b = eqb-true piece.blob b both_facts.1
 
-    filed : is_reserved (unlisted_place (build_in (builds s.limits.page h) piece.blob)) ≡ true
+    filed : is_reserved (unlisted_place (build_in (builds (page_limit s) h) piece.blob)) ≡ true
     filed =
-        ap (λ (name : ℕ). is_reserved (unlisted_place (build_in (builds s.limits.page h) name))) of_b ∙ ap (λ (o : Option Build). is_reserved (unlisted_place o)) at
+        ap (λ (name : ℕ). is_reserved (unlisted_place (build_in (builds (page_limit s) h) name))) of_b ∙ ap
+        (λ (o : Option Build). is_reserved (unlisted_place o)) at
         ∙ ap (λ (p : Option Plan). is_reserved (planned_place p)) plan
 
-    at_place : slice_get (pieces_of s.limits.page h piece.blob) segment ≡ Some piece
-    at_place = subst (λ (name : ℕ). slice_get (pieces_of s.limits.page h name) segment ≡ Some piece) (sym of_b) place_of.1
+    at_place : slice_get (pieces_of (page_limit s) h piece.blob) segment ≡ Some piece
+    at_place = subst (λ (name : ℕ). slice_get (pieces_of (page_limit s) h name) segment ≡ Some piece) (sym of_b) place_of.1
 
     not_listed : is_listed (pages h) (flying h) piece.number ≡ true → ⊥
     not_listed e =
         let known = fits.0.known piece.number e in
         let one : known.piece ≡ piece = known_piece s h piece found known in
-        let came : HasCome s h piece = subst (HasCome s h) one (known.came (subst (λ (each : Piece). is_reserved (unlisted_place (build_in (builds s.limits.page h) each.blob)) ≡ true) (sym one) filed)) in
-        let equal : came.0 ≡ segment = one_place (pieces_of s.limits.page h piece.blob) came.0 segment piece (filter_rising (λ (each : Piece). each.blob == piece.blob) (pieces s.limits.page h) (numbered_rising 0 (pieces s.limits.page h) (pieces_numbered s.limits.page 0 (builds s.limits.page h)))) came.1 at_place in
+        let came : HasCome s h piece =
+        subst (HasCome s h) one (known.came (subst (λ (each : Piece). is_reserved (unlisted_place (build_in (builds (page_limit s) h) each.blob)) ≡ true)
+        (sym one) filed)) in
+        let equal : came.0 ≡ segment = one_place (pieces_of (page_limit s) h piece.blob) came.0 segment piece
+        (filter_rising (λ (each : Piece). each.blob == piece.blob) (pieces (page_limit s) h)
+        (numbered_rising 0 (pieces (page_limit s) h) (pieces_numbered (page_limit s) 0 (builds (page_limit s) h)))) came.1 at_place in
         let arrived : has_come (arrivals h b) segment ≡ true = sym (λ i. has_come (arrivals h (of_b i)) (equal i)) ∙ came.2 in
         false_true (sym fresh ∙ arrived)
 
@@ -178,32 +201,43 @@ stored_by s h renderer b segment bytes n build holders accepted at plan granted 
       where
         go : (o : Option Page) → page_with (pages h) piece.number ≡ o → o ≡ None
         go None e = refl
-        go (Some file) e = absurd (not_listed (or_first (list_any (λ (each : Page). lists each piece.number) (pages h)) (list_any (λ (each : ℕ). each == piece.number) (flying h)) (listed_by (pages h) piece.number file e)))
+        go (Some file) e =
+            absurd
+            (not_listed (or_first (list_any (λ (each : Page). lists each piece.number) (pages h)) (list_any (λ (each : ℕ). each == piece.number) (flying h))
+            (listed_by (pages h) piece.number file e)))
 
     has_now : has_come (arrivals next b) segment ≡ true
     has_now =
         (λ i. has_come (cond (eq-eqb b b refl i) (arrivals h b ++ record { segment = segment; bytes = bytes } ∷ []) (arrivals h b)) segment)
-        ∙ any_append_second (λ (arrival : Arrival). arrival.segment == segment) (arrivals h b) (record { segment = segment; bytes = bytes } ∷ []) (or_first (segment == segment) false (eq-eqb segment segment refl))
+        ∙ any_append_second (λ (arrival : Arrival). arrival.segment == segment) (arrivals h b) (record { segment = segment; bytes = bytes } ∷ [])
+        (or_first (segment == segment) false (eq-eqb segment segment refl))
 
     known : Known s next piece.number
     known = record {
       piece = piece;
       found = found;
-      granted = ap (λ (name : ℕ). option_map_or (is_granted next) (build_in (builds s.limits.page h) name) false) of_b ∙ ap (λ (o : Option Build). option_map_or (is_granted next) o false) at ∙ granted;
+      granted = ap (λ (name : ℕ). option_map_or (is_granted next) (build_in (builds (page_limit s) h) name) false) of_b ∙ ap
+          (λ (o : Option Build). option_map_or (is_granted next) o false) at ∙ granted;
       came = λ e. (segment, at_place, subst (λ (name : ℕ). has_come (arrivals next name) segment ≡ true) (sym of_b) has_now);
     }
 
 -- the line's tests say what the stored piece needs
-pub stored_fits : (s : Session) (h : History) (renderer : RendererId) (b segment : ℕ) (bytes : List ℕ) (n : ℕ) → HoldersSpawned h → refusal s h (events.Segment renderer b segment bytes) ≡ None → plan_in s h b ≡ Some (plans.File n) → Fits s h
-    → Fits s (said (heard h (events.Segment renderer b segment bytes) (answers.Taken segment)) (answers.Stored (page_no (next_page h)) (piece_no (piece_at s h b segment))))
-stored_fits s h renderer b segment bytes n holders accepted plan fits = go (build_in (builds s.limits.page h) b) refl (tests_fail s h (events.Segment renderer b segment bytes) accepted).1
+pub stored_fits : (s : Session) (h : History) (renderer : RendererId) (b segment : ℕ) (bytes : List ℕ) (n : ℕ) → HoldersSpawned h
+    → refusal s h (events.Segment renderer b segment bytes) ≡ None → plan_in s h b ≡ Some (plans.File n) → Fits s h
+    → Fits s (said (heard h (events.Segment renderer b segment bytes) (answers.Taken segment))
+    (answers.Stored (page_no (next_page h)) (piece_no (piece_at s h b segment))))
+stored_fits s h renderer b segment bytes n holders accepted plan fits = go (build_in (builds (page_limit s) h) b) refl
+    (tests_fail s h (events.Segment renderer b segment bytes) accepted).1
   where
-    go : (found : Option Build) → build_in (builds s.limits.page h) b ≡ found → AllByRecursion (λ (case : Bool × Refusal). case.0 ≡ false) (segment_refusals s h renderer b segment (length bytes) found)
-        → Fits s (said (heard h (events.Segment renderer b segment bytes) (answers.Taken segment)) (answers.Stored (page_no (next_page h)) (piece_no (piece_at s h b segment))))
+    go : (found : Option Build) → build_in (builds (page_limit s) h) b ≡ found → AllByRecursion (λ (case : Bool × Refusal). case.0 ≡ false)
+        (segment_refusals s h renderer b segment (length bytes) found)
+        → Fits s (said (heard h (events.Segment renderer b segment bytes) (answers.Taken segment))
+        (answers.Stored (page_no (next_page h)) (piece_no (piece_at s h b segment))))
     go None at tests = absurd (false_true (sym tests.0))
     go (Some build) at tests =
         let sends = segment_found s h renderer b segment (length bytes) (Some build) tests in
         let same : sends.0 ≡ build = (let e = sends.1 in cc) in
         let granted : is_granted h build ≡ true = subst (λ (each : Build). is_granted h each ≡ true) same sends.2 in
         let planned : build.plan ≡ Some (plans.File n) = sym (ap (λ (o : Option Build). option_map_or (λ (each : Build). each.plan) o None) at) ∙ plan in
-        stored_by s h renderer b segment bytes n build holders accepted at planned granted (leb-false (length (spans s.limits build)) segment tests.1.0) tests.1.1.0 fits
+        stored_by s h renderer b segment bytes n build holders accepted at planned granted (leb-false (length (spans s.limits build)) segment tests.1.0)
+        tests.1.1.0 fits

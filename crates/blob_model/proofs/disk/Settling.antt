@@ -5,7 +5,7 @@ use Rattle.std.specs.List.{AllByRecursion, list_any}
 use Rattle.std.proofs.lemmas.Bool.{and_parts}
 use Rattle.answer_text.specs.declared.answer.Answer.{Answer}
 use Rattle.answer_text.specs.declared.answer.Answer.TheVariants as answers
-use Rattle.blob_model.specs.Session.{Session}
+use Rattle.blob_model.specs.Session.{Session, page_limit}
 use Rattle.blob_model.specs.History.{History, said, said_all}
 use Rattle.blob_model.specs.Parts.{own_bytes}
 use Rattle.blob_model.specs.Builds.{Build, builds}
@@ -32,7 +32,7 @@ use Rattle.blob_model.proofs.disk.Stock.{flying_of, flying, is_listed, Known, St
 
 -- stocked, and within the limit
 abbrev pub Fits : Session → History → Type 0
-Fits s h = Stocked s h × (disk s.limits.page h ≤ s.limits.disk)
+Fits s h = Stocked s h × (disk (page_limit s) h ≤ s.limits.disk)
 
 -- a list is a part of itself
 pub part_same : (xs : List ℕ) → PartOf xs xs
@@ -92,7 +92,8 @@ pass_even : (s : Session) (g : History) (list : List Build) → AllEven (endings
 pass_even s g [] = tt
 pass_even s g (build ∷ list) =
     even_append (ending_answers s g build) (endings_of s (said_all g (ending_answers s g build)) list)
-    (one_by s g build AllEven tt (λ answer e. (some_that (λ (each : Answer). is_even each ≡ true) (ending_tests s g build) answer (refl, (refl, (refl, (refl, tt)))) e, tt)))
+    (one_by s g build AllEven tt
+    (λ answer e. (some_that (λ (each : Answer). is_even each ≡ true) (ending_tests s g build) answer (refl, (refl, (refl, (refl, tt)))) e, tt)))
     (pass_even s (said_all g (ending_answers s g build)) list)
 
 removals_even : (unremoved : List ℕ) (list : List Page) → AllEven (map (removal unremoved) list)
@@ -105,9 +106,11 @@ removals_even unremoved (file ∷ list) = (go (list_any (λ (number : ℕ). numb
 
 grants_even : (s : Session) (h : History) (list : List Build) → AllEven (grants_of s h list)
 grants_even s h [] = tt
-grants_even s h (build ∷ more) = go (nat_le (memory s.limits.page h + own_bytes build.parts) s.limits.memory) (grants_even s (said h (answers.Granted build.name)) more)
+grants_even s h (build ∷ more) = go (nat_le (memory (page_limit s) h + own_bytes build.parts) s.limits.memory)
+    (grants_even s (said h (answers.Granted build.name)) more)
   where
-    go : (b : Bool) → AllEven (grants_of s (said h (answers.Granted build.name)) more) → AllEven (if b then answers.Granted build.name ∷ grants_of s (said h (answers.Granted build.name)) more else [])
+    go : (b : Bool) → AllEven (grants_of s (said h (answers.Granted build.name)) more)
+        → AllEven (if b then answers.Granted build.name ∷ grants_of s (said h (answers.Granted build.name)) more else [])
     go true rest = (refl, rest)
     go false rest = tt
 
@@ -120,7 +123,7 @@ granted_all h (answer ∷ list) name e = granted_all (said h answer) list name (
 -- answers keep blobs, grants and segments
 pub follows_all : (s : Session) (h : History) (list : List Answer) → Follows s h (said_all h list)
 follows_all s h list = record {
-  blobs = builds_all s.limits.page h list;
+  blobs = builds_all (page_limit s) h list;
   granted = λ name e. granted_all h list name e;
   came = λ name k e. subst (λ xs. has_come xs k ≡ true) (sym (kept_by_all (λ (g : History). arrivals g name) (λ g answer. refl) h list)) e;
 }
@@ -134,38 +137,46 @@ stocked_even s h list all stocked =
     (subst (λ (xs : List ℕ). PartOf xs (flying h)) (sym same) (part_same (flying h))) (subst AreApart (sym same) stocked.job_apart) stocked
 
 -- and the limit
-fits_even : (s : Session) (h : History) (list : List Answer) → AllEven list → Shrinks s.limits.page h (said_all h list) → Fits s h → Fits s (said_all h list)
+fits_even : (s : Session) (h : History) (list : List Answer) → AllEven list → Shrinks (page_limit s) h (said_all h list) → Fits s h → Fits s (said_all h list)
 fits_even s h list all shrinks fits =
     let same : flying (said_all h list) ≡ flying h = kept_by_kind flying is_even even_flying h list all in
-    let less = disk_shrinks s.limits.page h (said_all h list) shrinks (kept_by_kind pages is_even even_pages h list all) (subst (λ (xs : List ℕ). PartOf xs (flying h)) (sym same) (part_same (flying h))) in
+    let less = disk_shrinks (page_limit s) h (said_all h list) shrinks (kept_by_kind pages is_even even_pages h list all)
+    (subst (λ (xs : List ℕ). PartOf xs (flying h)) (sym same) (part_same (flying h))) in
     let before = fits.1 in
     (stocked_even s h list all fits.0, omega (arith, less, before))
 
 pub fits_drops : (s : Session) (h : History) → Fits s h → Fits s (said_all h (drops s h))
-fits_drops s h fits = fits_even s h (drops s h) (drops_even (filter (drops_test s h) (reverse (builds s.limits.page h)))) (drops_shrink s h) fits
+fits_drops s h fits = fits_even s h (drops s h) (drops_even (filter (drops_test s h) (reverse (builds (page_limit s) h)))) (drops_shrink s h) fits
 
 pub fits_endings : (s : Session) (h : History) → Fits s h → Fits s (said_all h (endings s h))
-fits_endings s h fits = fits_even s h (endings s h) (pass_even s h (builds s.limits.page h)) (endings_shrink s h) fits
+fits_endings s h fits = fits_even s h (endings s h) (pass_even s h (builds (page_limit s) h)) (endings_shrink s h) fits
 
 pub fits_removals : (s : Session) (unremoved : List ℕ) (h : History) → Fits s h → Fits s (said_all h (removals s unremoved h))
-fits_removals s unremoved h fits = fits_even s h (removals s unremoved h) (removals_even unremoved (filter (is_due h (files s.limits.page h)) (pages h))) (removals_shrink s unremoved h) fits
+fits_removals s unremoved h fits = fits_even s h (removals s unremoved h) (removals_even unremoved (filter (is_due h (files (page_limit s) h)) (pages h)))
+    (removals_shrink s unremoved h) fits
 
 -- grants do, since charged pieces are granted
 pub grants_fit : (s : Session) (h : History) → Fits s h → Fits s (said_all h (grants s h))
 grants_fit s h fits =
-    let same : flying (said_all h (grants s h)) ≡ flying h = kept_by_kind flying is_even even_flying h (grants s h) (grants_even s h (waits s.limits.page h)) in
-    let cells = cells_late s.limits.page h (grants s h) (grants_late s h (waits s.limits.page h)) in
-    let less = disk_less s.limits.page h (said_all h (grants s h)) (builds_all s.limits.page h (grants s h)) (kept_by_kind pages is_even even_pages h (grants s h) (grants_even s h (waits s.limits.page h)))
+    let same : flying (said_all h (grants s h)) ≡ flying h = kept_by_kind flying is_even even_flying h (grants s h) (grants_even s h (waits (page_limit s) h))
+    in
+    let cells = cells_late (page_limit s) h (grants s h) (grants_late s h (waits (page_limit s) h)) in
+    let less = disk_less (page_limit s) h (said_all h (grants s h)) (builds_all (page_limit s) h (grants s h))
+    (kept_by_kind pages is_even even_pages h (grants s h) (grants_even s h (waits (page_limit s) h)))
     (subst (λ (xs : List ℕ). PartOf xs (flying h)) (sym same) (part_same (flying h)))
-    (for_each (λ (piece : Piece). is_charged (pages h) (flying h) (builds s.limits.page h) piece ≡ true → is_granted_piece h (builds s.limits.page h) piece ≡ true)
-    (λ (piece : Piece). reaches s.limits.page (said_all h (grants s h)) (builds s.limits.page h) piece ≡ true → is_charged (pages h) (flying h) (builds s.limits.page h) piece ≡ true → reaches s.limits.page h (builds s.limits.page h) piece ≡ true)
-    (pieces s.limits.page h)
+    (for_each (λ (piece : Piece). is_charged (pages h) (flying h) (builds (page_limit s) h) piece ≡ true → is_granted_piece h (builds (page_limit s) h) piece
+    ≡ true)
+    (λ (piece : Piece). reaches (page_limit s) (said_all h (grants s h)) (builds (page_limit s) h) piece ≡ true → is_charged (pages h) (flying h)
+    (builds (page_limit s) h) piece ≡ true → reaches (page_limit s) h (builds (page_limit s) h) piece ≡ true)
+    (pieces (page_limit s) h)
     (λ piece f reach charged.
-    let parts = and_parts (is_granted_piece (said_all h (grants s h)) (builds s.limits.page h) piece) (owns_some (live_cells s.limits.page (said_all h (grants s h))) piece) reach in
-    both (is_granted_piece h (builds s.limits.page h) piece) (owns_some (live_cells s.limits.page h) piece) (f charged) (subst (λ xs. owns_some xs piece ≡ true) cells parts.1))
+    let parts = and_parts (is_granted_piece (said_all h (grants s h)) (builds (page_limit s) h) piece)
+    (owns_some (live_cells (page_limit s) (said_all h (grants s h))) piece) reach in
+    both (is_granted_piece h (builds (page_limit s) h) piece) (owns_some (live_cells (page_limit s) h) piece) (f charged)
+    (subst (λ xs. owns_some xs piece ≡ true) cells parts.1))
     (charged_granted s h fits.0)) in
     let before = fits.1 in
-    (stocked_even s h (grants s h) (grants_even s h (waits s.limits.page h)) fits.0, omega (arith, less, before))
+    (stocked_even s h (grants s h) (grants_even s h (waits (page_limit s) h)) fits.0, omega (arith, less, before))
 
 -- ---- a job starts
 
@@ -175,20 +186,26 @@ numbers_list [] = refl
 numbers_list (n ∷ list) = ap (λ (xs : List ℕ). n ∷ xs) (numbers_list list)
 
 -- a job of known pieces that differ, where the disk has room for them
-pub job_fits : (s : Session) (h : History) (answer : Answer) (list : List ℕ) → AllStill (answer ∷ []) → pages (said h answer) ≡ pages h → next_page (said h answer) ≡ next_page h → flying (said h answer) ≡ list → is_none (in_flight h) ≡ true
-    → AreApart list → AllByRecursion (Known s h) list → in_job list (pieces s.limits.page h) (reached s.limits.page h) ≤ s.limits.disk - disk s.limits.page h → Fits s h → Fits s (said h answer)
+pub job_fits : (s : Session) (h : History) (answer : Answer) (list : List ℕ) → AllStill (answer ∷ []) → pages (said h answer) ≡ pages h
+    → next_page (said h answer) ≡ next_page h → flying (said h answer) ≡ list → is_none (in_flight h) ≡ true
+    → AreApart list → AllByRecursion (Known s h) list → in_job list (pieces (page_limit s) h) (reached (page_limit s) h) ≤ s.limits.disk - disk (page_limit s) h
+    → Fits s h → Fits s (said h answer)
 job_fits s h answer list still written next flies idle apart known room fits =
-    let held : reached s.limits.page (said h answer) ≡ reached s.limits.page h = reached_still s.limits.page h (answer ∷ []) still in
-    let now : disk s.limits.page (said h answer) ≡ charge (pages h) list (builds s.limits.page h) (pieces s.limits.page h) (reached s.limits.page h) =
-    disk_as s.limits.page (said h answer) ∙ (λ i. charge (written i) (flies i) (builds s.limits.page h) (pieces s.limits.page h) (held i)) in
-    let before : disk s.limits.page h ≡ charge (pages h) [] (builds s.limits.page h) (pieces s.limits.page h) (reached s.limits.page h) =
-    disk_as s.limits.page h ∙ (λ i. charge (pages h) (none_flies (in_flight h) idle i) (builds s.limits.page h) (pieces s.limits.page h) (reached s.limits.page h)) in
+    let held : reached (page_limit s) (said h answer) ≡ reached (page_limit s) h = reached_still (page_limit s) h (answer ∷ []) still in
+    let now : disk (page_limit s) (said h answer) ≡ charge (pages h) list (builds (page_limit s) h) (pieces (page_limit s) h) (reached (page_limit s) h) =
+    disk_as (page_limit s) (said h answer) ∙ (λ i. charge (written i) (flies i) (builds (page_limit s) h) (pieces (page_limit s) h) (held i)) in
+    let before : disk (page_limit s) h ≡ charge (pages h) [] (builds (page_limit s) h) (pieces (page_limit s) h) (reached (page_limit s) h) =
+    disk_as (page_limit s) h ∙ (λ i. charge (pages h) (none_flies (in_flight h) idle i) (builds (page_limit s) h) (pieces (page_limit s) h)
+    (reached (page_limit s) h)) in
     let limit = fits.1 in (
       record {
-        low = subst (λ (xs : List Page). AllByRecursion (λ (file : Page). file.number < next_page (said h answer)) xs) (sym written) (for_each (λ (file : Page). file.number < next_page h) (λ (file : Page). file.number < next_page (said h answer)) (pages h) (λ file e. omega (arith, e, next)) fits.0.low);
+        low = subst (λ (xs : List Page). AllByRecursion (λ (file : Page). file.number < next_page (said h answer)) xs) (sym written)
+            (for_each (λ (file : Page). file.number < next_page h) (λ (file : Page). file.number < next_page (said h answer)) (pages h)
+            (λ file e. omega (arith, e, next)) fits.0.low);
         apart = subst (λ (xs : List Page). AllByRecursion (λ (file : Page). AreApart file.pieces) xs) (sym written) fits.0.apart;
         job_apart = subst AreApart (sym flies) apart;
-        known = λ n e. known_follows s h (said h answer) n (follows_all s h (answer ∷ [])) (go n (subst (λ (xs : List Page). is_listed xs (flying (said h answer)) n ≡ true) written e));
+        known = λ n e. known_follows s h (said h answer) n (follows_all s h (answer ∷ []))
+            (go n (subst (λ (xs : List Page). is_listed xs (flying (said h answer)) n ≡ true) written e));
       },
       omega (arith, now, before, room, limit),
     )
@@ -200,6 +217,8 @@ job_fits s h answer list still written next flies idle apart known room fits =
     go : (n : ℕ) → is_listed (pages h) (flying (said h answer)) n ≡ true → Known s h n
     go n e =
         ⊎_elim
-        (λ (file : list_any (λ (each : Page). lists each n) (pages h) ≡ true). fits.0.known n (or_first (list_any (λ (each : Page). lists each n) (pages h)) (list_any (λ (each : ℕ). each == n) (flying h)) file))
-        (λ (job : list_any (λ (each : ℕ). each == n) (flying (said h answer)) ≡ true). member_has (Known s h) list n known (subst (λ (xs : List ℕ). list_any (λ (each : ℕ). each == n) xs ≡ true) flies job))
+        (λ (file : list_any (λ (each : Page). lists each n) (pages h) ≡ true). fits.0.known n
+        (or_first (list_any (λ (each : Page). lists each n) (pages h)) (list_any (λ (each : ℕ). each == n) (flying h)) file))
+        (λ (job : list_any (λ (each : ℕ). each == n) (flying (said h answer)) ≡ true). member_has (Known s h) list n known
+        (subst (λ (xs : List ℕ). list_any (λ (each : ℕ). each == n) xs ≡ true) flies job))
         (or_cases (list_any (λ (each : Page). lists each n) (pages h)) (list_any (λ (each : ℕ). each == n) (flying (said h answer))) e)

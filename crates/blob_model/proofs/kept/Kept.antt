@@ -10,7 +10,7 @@ use Rattle.session_script.specs.declared.event.Event.{Event}
 use Rattle.answer_text.specs.declared.answer.Answer.{Answer}
 use Rattle.answer_text.specs.declared.answer.Answer.TheVariants as answers
 use Rattle.answer_text.specs.declared.refusal.Refusal.{Refusal}
-use Rattle.blob_model.specs.Session.{Session}
+use Rattle.blob_model.specs.Session.{Session, page_limit}
 use Rattle.blob_model.specs.History.{History, heard, refused, said}
 use Rattle.blob_model.specs.Builds.{Build, builds}
 use Rattle.blob_model.specs.Standing.{ended_after, ended, is_unfinished, was_granted_after, was_granted}
@@ -22,11 +22,11 @@ use Rattle.blob_model.proofs.live.Least.{named}
 use Rattle.blob_model.proofs.builds.Order.{AreOrdered}
 
 pub record Kept (s : Session) (h : History) : Type 0 where
-  pub ordered : AreOrdered [] (builds s.limits.page h)
-  pub held : (holder name : ℕ) → has_handle h holder name ≡ true → named name (builds s.limits.page h) ≡ true
-  pub broke : AllByRecursion (λ (build : Build). is_some build.plan ≡ false → is_unfinished h build.name ≡ false) (builds s.limits.page h)
-  pub quiet : (name : ℕ) → named name (builds s.limits.page h) ≡ false → arrivals h name ≡ []
-  pub lacking : AllByRecursion (λ (build : Build). is_waiting h build ≡ true → has_all s.limits h build ≡ false) (builds s.limits.page h)
+  pub ordered : AreOrdered [] (builds (page_limit s) h)
+  pub held : (holder name : ℕ) → has_handle h holder name ≡ true → named name (builds (page_limit s) h) ≡ true
+  pub broke : AllByRecursion (λ (build : Build). is_some build.plan ≡ false → is_unfinished h build.name ≡ false) (builds (page_limit s) h)
+  pub quiet : (name : ℕ) → named name (builds (page_limit s) h) ≡ false → arrivals h name ≡ []
+  pub lacking : AllByRecursion (λ (build : Build). is_waiting h build ≡ true → has_all s.limits h build ≡ false) (builds (page_limit s) h)
 
 -- ---- what never comes back
 
@@ -55,11 +55,13 @@ still_granted answer name before e = e
 pub unfinished_said : (h : History) (answer : Answer) (name : ℕ) → is_unfinished (said h answer) name ≡ true → is_unfinished h name ≡ true
 unfinished_said h answer name e = still_ended answer name (ended h name) e
 
-pub unfinished_heard : (h : History) (event : Event) (answer : Answer) (name : ℕ) → is_unfinished (heard h event answer) name ≡ true → is_unfinished h name ≡ true
+pub unfinished_heard : (h : History) (event : Event) (answer : Answer) (name : ℕ) → is_unfinished (heard h event answer) name ≡ true → is_unfinished h name
+    ≡ true
 unfinished_heard h event answer name e = still_ended answer name (ended h name) e
 
 -- a blob that waits waited before
-waits_before : (u' u g' g : Bool) (plan : Option Plan) → (u' ≡ true → u ≡ true) → (g ≡ true → g' ≡ true) → (u' && is_shared plan && not g') ≡ true → (u && is_shared plan && not g) ≡ true
+waits_before : (u' u g' g : Bool) (plan : Option Plan) → (u' ≡ true → u ≡ true) → (g ≡ true → g' ≡ true) → (u' && is_shared plan && not g') ≡ true
+    → (u && is_shared plan && not g) ≡ true
 waits_before u' u g' true plan up gp e =
     let parts = and_parts (u' && is_shared plan) (not g') e in
     let granted : g' ≡ true = gp refl in
@@ -71,12 +73,14 @@ waits_before u' u g' false plan up gp e =
 
 pub waiting_said : (h : History) (answer : Answer) (build : Build) → is_waiting (said h answer) build ≡ true → is_waiting h build ≡ true
 waiting_said h answer build e =
-    waits_before (is_unfinished (said h answer) build.name) (is_unfinished h build.name) (was_granted (said h answer) build.name) (was_granted h build.name) build.plan
+    waits_before (is_unfinished (said h answer) build.name) (is_unfinished h build.name) (was_granted (said h answer) build.name) (was_granted h build.name)
+    build.plan
     (unfinished_said h answer build.name) (still_granted answer build.name (was_granted h build.name)) e
 
 pub waiting_heard : (h : History) (event : Event) (answer : Answer) (build : Build) → is_waiting (heard h event answer) build ≡ true → is_waiting h build ≡ true
 waiting_heard h event answer build e =
-    waits_before (is_unfinished (heard h event answer) build.name) (is_unfinished h build.name) (was_granted (heard h event answer) build.name) (was_granted h build.name) build.plan
+    waits_before (is_unfinished (heard h event answer) build.name) (is_unfinished h build.name) (was_granted (heard h event answer) build.name)
+    (was_granted h build.name) build.plan
     (unfinished_heard h event answer build.name) (still_granted answer build.name (was_granted h build.name)) e
 
 -- a further answer keeps all of it
@@ -85,12 +89,14 @@ kept_said s h answer kept = record {
   ordered = kept.ordered;
   held = kept.held;
   broke =
-      for_each (λ (build : Build). is_some build.plan ≡ false → is_unfinished h build.name ≡ false) (λ (build : Build). is_some build.plan ≡ false → is_unfinished (said h answer) build.name ≡ false)
-      (builds s.limits.page h) (λ build was none. go (is_unfinished (said h answer) build.name) (was none) (unfinished_said h answer build.name)) kept.broke;
+      for_each (λ (build : Build). is_some build.plan ≡ false → is_unfinished h build.name ≡ false)
+      (λ (build : Build). is_some build.plan ≡ false → is_unfinished (said h answer) build.name ≡ false)
+      (builds (page_limit s) h) (λ build was none. go (is_unfinished (said h answer) build.name) (was none) (unfinished_said h answer build.name)) kept.broke;
   quiet = kept.quiet;
   lacking =
-      for_each (λ (build : Build). is_waiting h build ≡ true → has_all s.limits h build ≡ false) (λ (build : Build). is_waiting (said h answer) build ≡ true → has_all s.limits (said h answer) build ≡ false)
-      (builds s.limits.page h) (λ build was waiting. was (waiting_said h answer build waiting)) kept.lacking;
+      for_each (λ (build : Build). is_waiting h build ≡ true → has_all s.limits h build ≡ false)
+      (λ (build : Build). is_waiting (said h answer) build ≡ true → has_all s.limits (said h answer) build ≡ false)
+      (builds (page_limit s) h) (λ build was waiting. was (waiting_said h answer build waiting)) kept.lacking;
 }
   where
     go : (b : Bool) {c : Bool} → c ≡ false → (b ≡ true → c ≡ true) → b ≡ false

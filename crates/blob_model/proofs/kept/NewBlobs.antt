@@ -17,7 +17,7 @@ use Rattle.answer_text.specs.declared.refusal.Refusal.{Refusal}
 use Rattle.transport_plan.specs.declared.input.PlanInput.{PlanInput}
 use Rattle.transport_plan.specs.Plan.{plan_of, file_plan, shared_plan, has_file_room, fits_inline}
 use Rattle.transport_plan.specs.Plan.{own_bytes as input_bytes}
-use Rattle.blob_model.specs.Session.{Session}
+use Rattle.blob_model.specs.Session.{Session, page_limit}
 use Rattle.blob_model.specs.History.{History, heard}
 use Rattle.blob_model.specs.Parts.{sources, own_lengths, own_bytes, embedded}
 use Rattle.blob_model.specs.Builds.{Build, builds, built, build_in, plan_told}
@@ -84,7 +84,8 @@ shared_spans s h parts plan at e build same planned = absurd (false_true e)
 
 -- ---- what the tests of an accepted line say
 
-pub tests_fail : (s : Session) (h : History) (event : Event) → refusal s h event ≡ None → AllByRecursion (λ (case : Bool × Refusal). case.0 ≡ false) (refusals_of s h event)
+pub tests_fail : (s : Session) (h : History) (event : Event) → refusal s h event ≡ None → AllByRecursion (λ (case : Bool × Refusal). case.0 ≡ false)
+    (refusals_of s h event)
 tests_fail s h event e = none_applies (refusals_of s h event) e
 
 pub found_named : (list : List Build) (name : ℕ) → is_some (build_in list name) ≡ named name list
@@ -108,13 +109,16 @@ fails_at test (x ∷ list) name none has =
 -- ---- the new blob
 
 abbrev pub new_build : Session → History → ℕ → ℕ → List ℕ → List Part → Build
-new_build s h renderer name kind parts = built s.limits.page (builds s.limits.page h) renderer name kind parts (plan_told (build_answer s h renderer name parts))
+new_build s h renderer name kind parts = built (page_limit s) (builds (page_limit s) h) renderer name kind parts
+    (plan_told (build_answer s h renderer name parts))
 
 new_older : (s : Session) (h : History) (renderer name : ℕ) (kind : List ℕ) (parts : List Part) → Kept s h → (source : ℕ)
-    → is_some (new_build s h renderer name kind parts).plan ≡ true → has_source (new_build s h renderer name kind parts) source ≡ true → named source (builds s.limits.page h) ≡ true
+    → is_some (new_build s h renderer name kind parts).plan ≡ true → has_source (new_build s h renderer name kind parts) source ≡ true
+    → named source (builds (page_limit s) h) ≡ true
 new_older s h renderer name kind parts kept source planned has = go (line_status s h renderer name parts) refl planned
   where
-    go : (status : Option Status) → line_status s h renderer name parts ≡ status → is_some (plan_told (build_answer_by s h name parts status)) ≡ true → named source (builds s.limits.page h) ≡ true
+    go : (status : Option Status) → line_status s h renderer name parts ≡ status → is_some (plan_told (build_answer_by s h name parts status)) ≡ true
+        → named source (builds (page_limit s) h) ≡ true
     go (Some status) e f = absurd (false_true f)
     go None e f =
         let tests = none_applies (line_tests s h renderer name parts) e in
@@ -122,17 +126,19 @@ new_older s h renderer name kind parts kept source planned has = go (line_status
         let holds : has_handle h renderer source ≡ true = not_false (has_handle h renderer source) (or_parts (not (has_handle h renderer source)) _ lost).0 in
         kept.held renderer source holds
 
-pub ordered_grows : (s : Session) (h : History) (renderer name : ℕ) (kind : List ℕ) (parts : List Part) → Kept s h → named name (builds s.limits.page h) ≡ false
-    → AreOrdered [] (builds s.limits.page h ++ new_build s h renderer name kind parts ∷ [])
+pub ordered_grows : (s : Session) (h : History) (renderer name : ℕ) (kind : List ℕ) (parts : List Part) → Kept s h → named name (builds (page_limit s) h)
+    ≡ false
+    → AreOrdered [] (builds (page_limit s) h ++ new_build s h renderer name kind parts ∷ [])
 ordered_grows s h renderer name kind parts kept fresh =
-    ordered_more [] (builds s.limits.page h) (new_build s h renderer name kind parts) kept.ordered fresh (new_older s h renderer name kind parts kept)
+    ordered_more [] (builds (page_limit s) h) (new_build s h renderer name kind parts) kept.ordered fresh (new_older s h renderer name kind parts kept)
 
 -- a blob that breaks at its own line has ended
 pub new_broke : (s : Session) (h : History) (event : Event) (renderer name : ℕ) (kind : List ℕ) (parts : List Part)
     → is_some (new_build s h renderer name kind parts).plan ≡ false → is_unfinished (heard h event (build_answer s h renderer name parts)) name ≡ false
 new_broke s h event renderer name kind parts none = go (line_status s h renderer name parts) none
   where
-    go : (status : Option Status) → is_some (plan_told (build_answer_by s h name parts status)) ≡ false → is_unfinished (heard h event (build_answer_by s h name parts status)) name ≡ false
+    go : (status : Option Status) → is_some (plan_told (build_answer_by s h name parts status)) ≡ false
+        → is_unfinished (heard h event (build_answer_by s h name parts status)) name ≡ false
     go (Some status) e = rw (eq-eqb name name refl) refl
     go None e = absurd (false_true (sym e))
 
@@ -148,14 +154,18 @@ positive_not_zero n some = go (n == 0) refl
     go true e = let zeroed : n ≡ 0 = eqb-true n 0 e in absurd (omega (arith, zeroed))
 
 -- a new blob that waits misses all its segments
-pub new_lacking : (s : Session) (h : History) (event : Event) (answer : Answer) (renderer name : ℕ) (kind : List ℕ) (parts : List Part) → arrivals (heard h event answer) name ≡ []
+pub new_lacking : (s : Session) (h : History) (event : Event) (answer : Answer) (renderer name : ℕ) (kind : List ℕ) (parts : List Part)
+    → arrivals (heard h event answer) name ≡ []
     → is_shared (new_build s h renderer name kind parts).plan ≡ true → has_all s.limits (heard h event answer) (new_build s h renderer name kind parts) ≡ false
 new_lacking s h event answer renderer name kind parts quiet shared =
     let some : 0 < length (spans s.limits (new_build s h renderer name kind parts)) = go (line_status s h renderer name parts) refl shared in
-    let list : missing s.limits (heard h event answer) (new_build s h renderer name kind parts) ≡ range_with_len 0 (length (spans s.limits (new_build s h renderer name kind parts))) =
-    ap (λ (came : List Arrival). filter (λ (segment : ℕ). not (has_come came segment)) (range_with_len 0 (length (spans s.limits (new_build s h renderer name kind parts))))) quiet
+    let list : missing s.limits (heard h event answer) (new_build s h renderer name kind parts)
+    ≡ range_with_len 0 (length (spans s.limits (new_build s h renderer name kind parts))) =
+    ap (λ (came : List Arrival). filter (λ (segment : ℕ). not (has_come came segment))
+    (range_with_len 0 (length (spans s.limits (new_build s h renderer name kind parts))))) quiet
     ∙ none_came (range_with_len 0 (length (spans s.limits (new_build s h renderer name kind parts)))) in
-    let count : length (missing s.limits (heard h event answer) (new_build s h renderer name kind parts)) ≡ length (spans s.limits (new_build s h renderer name kind parts)) =
+    let count : length (missing s.limits (heard h event answer) (new_build s h renderer name kind parts))
+    ≡ length (spans s.limits (new_build s h renderer name kind parts)) =
     ap (λ (xs : List ℕ). length xs) list ∙ length-range_with_len 0 (length (spans s.limits (new_build s h renderer name kind parts))) in
     positive_not_zero (length (missing s.limits (heard h event answer) (new_build s h renderer name kind parts))) (omega (arith, some, count))
   where

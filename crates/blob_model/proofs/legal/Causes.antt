@@ -17,7 +17,7 @@ use Rattle.session_script.specs.declared.event.Event.TheVariants as events
 use Rattle.session_script.specs.declared.event.Part.{Part}
 use Rattle.answer_text.specs.declared.answer.Answer.{Answer}
 use Rattle.answer_text.specs.declared.answer.Answer.TheVariants as answers
-use Rattle.blob_model.specs.Session.{Session}
+use Rattle.blob_model.specs.Session.{Session, page_limit}
 use Rattle.blob_model.specs.History.{History, start, heard, refused, said, said_all, has_ended}
 use Rattle.blob_model.specs.Builds.{Cell, sent, filed, lent, Build, builds, build_in, slice_parts}
 use Rattle.blob_model.specs.Standing.{ended, is_unfinished, is_broken_status}
@@ -86,12 +86,15 @@ is_reply answer = false
 pub data OwnCase (s : Session) (h : History) (event : Event) (own : List Answer) : Type 0 where
   idle : (answer : Answer) → own ≡ answer ∷ [] → is_idle answer ≡ true → OwnCase s h event own
   breaks : (b : ℕ) (status : Status) → is_broken_status status ≡ true → is_build event ≡ true → own ≡ answers.Broken b status ∷ [] → OwnCase s h event own
-  stores : (renderer : RendererId) (b segment : ℕ) (bytes : List ℕ) (n : ℕ) → event ≡ events.Segment renderer b segment bytes → plan_in s h b ≡ Some (plans.File n)
+  stores : (renderer : RendererId) (b segment : ℕ) (bytes : List ℕ) (n : ℕ) → event ≡ events.Segment renderer b segment bytes → plan_in s h b
+      ≡ Some (plans.File n)
       → own ≡ answers.Taken segment ∷ answers.Stored (page_no (next_page h)) (piece_no (piece_at s h b segment)) ∷ [] → OwnCase s h event own
-  unstores : (renderer : RendererId) (b segment : ℕ) (bytes : List ℕ) (n : ℕ) → event ≡ events.Segment renderer b segment bytes → plan_in s h b ≡ Some (plans.File n)
+  unstores : (renderer : RendererId) (b segment : ℕ) (bytes : List ℕ) (n : ℕ) → event ≡ events.Segment renderer b segment bytes → plan_in s h b
+      ≡ Some (plans.File n)
       → own ≡ answers.Taken segment ∷ answers.StoreFailed (page_no (next_page h)) ∷ [] → OwnCase s h event own
   replies : (job : JobNo) (answer : Answer) → event ≡ events.Disk job → own ≡ answer ∷ [] → is_reply answer ≡ true
-      → IsOneOf own ((job_done h job (source_of (in_flight h)) (job_left s.limits.page h) ∷ []) ∷ job_failed h job (source_of (in_flight h)) (job_left s.limits.page h)) → OwnCase s h event own
+      → IsOneOf own ((job_done h job (source_of (in_flight h)) (job_left (page_limit s) h) ∷ []) ∷ job_failed h job (source_of (in_flight h))
+      (job_left (page_limit s) h)) → OwnCase s h event own
   loses : (job : JobNo) → event ≡ events.Lost job → own ≡ answers.LostJob job ∷ [] → OwnCase s h event own
 
 abbrev pub IsIdle : List Answer → Type 0
@@ -116,28 +119,34 @@ place_idle reader reserved = tt
 
 piece_idle : (s : Session) (h : History) (reader : ReaderId) (piece : Option Piece) → AllIdle (sent_fault s h reader piece)
 piece_idle s h reader None = tt
-piece_idle s h reader (Some piece) = place_idle reader (place s.limits.page h piece)
+piece_idle s h reader (Some piece) = place_idle reader (place (page_limit s) h piece)
 
 cell_idle : (s : Session) (h : History) (reader : ReaderId) (cell : Cell) → AllIdle (cell_fault s h reader cell)
-cell_idle s h reader (sent blob index) = piece_idle s h reader (piece_with (pieces s.limits.page h) (sent blob index))
+cell_idle s h reader (sent blob index) = piece_idle s h reader (piece_with (pieces (page_limit s) h) (sent blob index))
 cell_idle s h reader (filed name stamp index) = tt
 cell_idle s h reader (lent slot index) = ((_, refl, refl), tt)
 
 read_idle : (s : Session) (h : History) (reader : ReaderId) (cells : List Cell) → AllIdle (read_faults s h reader cells)
 read_idle s h reader [] = tt
-read_idle s h reader (cell ∷ cells) = both_idle (cell_fault s h reader cell) (read_faults s h reader cells) (cell_idle s h reader cell) (read_idle s h reader cells)
+read_idle s h reader (cell ∷ cells) = both_idle (cell_fault s h reader cell) (read_faults s h reader cells) (cell_idle s h reader cell)
+    (read_idle s h reader cells)
 
-chunk_idle : (s : Session) (h : History) (reader : ReaderId) (cells : List Cell) (first : Option Cell) (own : List Answer) → IsRead s h reader cells first own → IsIdle own
+chunk_idle : (s : Session) (h : History) (reader : ReaderId) (cells : List Cell) (first : Option Cell) (own : List Answer) → IsRead s h reader cells first own
+    → IsIdle own
 chunk_idle s h reader cells None own (inl given) = (_, given.1, refl)
 chunk_idle s h reader cells None own (inr fault) = idle_one own (read_faults s h reader cells) (read_idle s h reader cells) fault
 chunk_idle s h reader cells (Some cell) own one =
-    idle_one own ((answers.FileChanged reader (file_of cell) ∷ []) ∷ read_faults s h reader (before_failing h cells)) ((_, refl, refl), read_idle s h reader (before_failing h cells)) one
+    idle_one own ((answers.FileChanged reader (file_of cell) ∷ []) ∷ read_faults s h reader (before_failing h cells))
+    ((_, refl, refl), read_idle s h reader (before_failing h cells)) one
 
-next_idle : (s : Session) (h : History) (reader : ReaderId) (open_reader : OpenReader) (more : ℕ) (own : List Answer) → IsNext s h reader open_reader more own → IsIdle own
+next_idle : (s : Session) (h : History) (reader : ReaderId) (open_reader : OpenReader) (more : ℕ) (own : List Answer) → IsNext s h reader open_reader more own
+    → IsIdle own
 next_idle s h reader open_reader zero own e = (_, e, refl)
-next_idle s h reader open_reader (suc more) own one = chunk_idle s h reader (chunk s.limits h open_reader) (first_failing h (chunk s.limits h open_reader)) own one
+next_idle s h reader open_reader (suc more) own one = chunk_idle s h reader (chunk s.limits h open_reader) (first_failing h (chunk s.limits h open_reader)) own
+    one
 
-step_idle : (s : Session) (h : History) (reader : ReaderId) (open_reader : OpenReader) (status : Option Status) (own : List Answer) → IsStepBy s h reader open_reader status own → IsIdle own
+step_idle : (s : Session) (h : History) (reader : ReaderId) (open_reader : OpenReader) (status : Option Status) (own : List Answer)
+    → IsStepBy s h reader open_reader status own → IsIdle own
 step_idle s h reader open_reader None own e = (_, e, refl)
 step_idle s h reader open_reader (Some statuses.Done) own one = next_idle s h reader open_reader (left open_reader) own one
 step_idle s h reader open_reader (Some status) own e = (_, e, refl)
@@ -146,7 +155,8 @@ found_idle : (s : Session) (h : History) (reader : ReaderId) (found : Option Ope
 found_idle s h reader None own one = absurd one
 found_idle s h reader (Some open_reader) own one = step_idle s h reader open_reader (ended h open_reader.blob) own one
 
-reply_alone : (h : History) (job : JobNo) (own : List Answer) (source : Option ℕ) (list : List ℕ) → IsOneOf own ((job_done h job source list ∷ []) ∷ job_failed h job source list)
+reply_alone : (h : History) (job : JobNo) (own : List Answer) (source : Option ℕ) (list : List ℕ)
+    → IsOneOf own ((job_done h job source list ∷ []) ∷ job_failed h job source list)
     → (answer : Answer) × (own ≡ answer ∷ []) × (is_reply answer ≡ true)
 reply_alone h job own source [] (inl e) = (_, e, refl)
 reply_alone h job own source [] (inr never) = absurd never
@@ -161,26 +171,32 @@ reply_alone h job own (Some file) (number ∷ numbers) (inr (inr (inr never))) =
 as_case : (s : Session) (h : History) (event : Event) (own : List Answer) → IsIdle own → OwnCase s h event own
 as_case s h event own all = idle (all.0) (all.1) (all.2)
 
-one_idle : (s : Session) (h : History) (event : Event) (own : List Answer) (answer : Answer) → is_idle answer ≡ true → (own ≡ answer ∷ []) ⊎ ⊥ → OwnCase s h event own
+one_idle : (s : Session) (h : History) (event : Event) (own : List Answer) (answer : Answer) → is_idle answer ≡ true → (own ≡ answer ∷ []) ⊎ ⊥
+    → OwnCase s h event own
 one_idle s h event own answer e (inl same) = idle answer same e
 one_idle s h event own answer e (inr never) = absurd never
 
 -- a line that builds
-build_case : (s : Session) (h : History) (event : Event) (own : List Answer) (renderer name : ℕ) (parts : List Part) (status : Option Status) → is_build event ≡ true → line_status s h renderer name parts ≡ status
+build_case : (s : Session) (h : History) (event : Event) (own : List Answer) (renderer name : ℕ) (parts : List Part) (status : Option Status) → is_build event
+    ≡ true → line_status s h renderer name parts ≡ status
     → (own ≡ build_answer_by s h name parts status ∷ []) ⊎ ⊥ → OwnCase s h event own
 build_case s h event own renderer name parts status builds_one at (inr never) = absurd never
 build_case s h event own renderer name parts None builds_one at (inl e) = idle _ e refl
 build_case s h event own renderer name parts (Some status) builds_one at (inl e) =
-    breaks name status (some_that (λ (each : Status). is_broken_status each ≡ true) (line_tests s h renderer name parts) status (refl, (refl, (refl, (refl, tt)))) at) builds_one e
+    breaks name status (some_that (λ (each : Status). is_broken_status each ≡ true) (line_tests s h renderer name parts) status
+    (refl, (refl, (refl, (refl, tt)))) at) builds_one e
 
 pub own_case : (s : Session) (h : History) (event : Event) (own : List Answer) → IsAccepted s h event own → OwnCase s h event own
-own_case s h (events.Step reader) own one = as_case s h (events.Step reader) own (found_idle s h reader (reader_at s.limits.page h reader.0) own one)
-own_case s h (events.Build renderer name kind parts) own one = build_case s h (events.Build renderer name kind parts) own renderer.0 name parts (line_status s h renderer.0 name parts) refl refl one
+own_case s h (events.Step reader) own one = as_case s h (events.Step reader) own (found_idle s h reader (reader_at (page_limit s) h reader.0) own one)
+own_case s h (events.Build renderer name kind parts) own one = build_case s h (events.Build renderer name kind parts) own renderer.0 name parts
+    (line_status s h renderer.0 name parts) refl refl one
 own_case s h (events.Slice renderer name source from to kind) own one =
-    build_case s h (events.Slice renderer name source from to kind) own renderer.0 name (slice_parts (builds s.limits.page h) source from to) (line_status s h renderer.0 name (slice_parts (builds s.limits.page h) source from to)) refl refl one
+    build_case s h (events.Slice renderer name source from to kind) own renderer.0 name (slice_parts (builds (page_limit s) h) source from to)
+    (line_status s h renderer.0 name (slice_parts (builds (page_limit s) h) source from to)) refl refl one
 own_case s h (events.Segment renderer b segment bytes) own one = go (plan_in s h b) refl one
   where
-    go : (plan : Option Plan) → plan_in s h b ≡ plan → IsOneOf own ((answers.Taken segment ∷ stored_answers s h b segment plan) ∷ unstored_answers s h segment plan) → OwnCase s h (events.Segment renderer b segment bytes) own
+    go : (plan : Option Plan) → plan_in s h b ≡ plan → IsOneOf own ((answers.Taken segment ∷ stored_answers s h b segment plan) ∷ unstored_answers s h segment
+        plan) → OwnCase s h (events.Segment renderer b segment bytes) own
     go (Some (plans.File n)) at (inl same) = stores renderer b segment bytes n refl at same
     go (Some (plans.File n)) at (inr (inl same)) = unstores renderer b segment bytes n refl at same
     go (Some (plans.File n)) at (inr (inr never)) = absurd never
@@ -191,7 +207,7 @@ own_case s h (events.Segment renderer b segment bytes) own one = go (plan_in s h
     go (Some (plans.TooMany what)) at f = one_idle s h (events.Segment renderer b segment bytes) own _ refl f
     go None at f = one_idle s h (events.Segment renderer b segment bytes) own _ refl f
 own_case s h (events.Disk job) own one =
-    let alone = reply_alone h job own (source_of (in_flight h)) (job_left s.limits.page h) one in
+    let alone = reply_alone h job own (source_of (in_flight h)) (job_left (page_limit s) h) one in
     replies job (alone.0) refl (alone.1) (alone.2) one
 own_case s h (events.Lost job) own (inl same) = loses job refl same
 own_case s h (events.Lost job) own (inr never) = absurd never
@@ -206,7 +222,7 @@ own_case s h event own one = one_idle s h event own _ refl one
 
 -- a blob of the history, found by its name
 abbrev pub IsBuilt : Session → History → Build → Type 0
-IsBuilt s h build = build_in (builds s.limits.page h) build.name ≡ Some build
+IsBuilt s h build = build_in (builds (page_limit s) h) build.name ≡ Some build
 
 -- a page file of this number was written
 abbrev pub was_written : History → ℕ → Bool
@@ -214,16 +230,25 @@ was_written h number = list_any (λ (each : Page). each.number == number) (pages
 
 -- what a further answer is told for: the line itself, or one of the seven lists
 pub data IsFurther (s : Session) (h : History) (answer : Answer) : Type 0 where
-  by_store : (g : History) (renderer : RendererId) (b segment : ℕ) (bytes : List ℕ) (n : ℕ) → h ≡ heard g (events.Segment renderer b segment bytes) (answers.Taken segment)
-      → refusal s g (events.Segment renderer b segment bytes) ≡ None → plan_in s g b ≡ Some (plans.File n) → answer ≡ answers.Stored (page_no (next_page g)) (piece_no (piece_at s g b segment)) → IsFurther s h answer
-  by_unstore : (g : History) (renderer : RendererId) (b segment : ℕ) (bytes : List ℕ) (n : ℕ) → h ≡ heard g (events.Segment renderer b segment bytes) (answers.Taken segment)
-      → refusal s g (events.Segment renderer b segment bytes) ≡ None → plan_in s g b ≡ Some (plans.File n) → answer ≡ answers.StoreFailed (page_no (next_page g)) → IsFurther s h answer
-  by_drop : (build : Build) → IsBuilt s h build → is_unfinished h build.name ≡ true → is_rooted s.limits.page h build.name ≡ false → answer ≡ answers.Dropped build.name → IsFurther s h answer
-  by_break : (build : Build) → IsBuilt s h build → is_unfinished h build.name ≡ true → (status : Status) → is_broken_status status ≡ true → answer ≡ answers.Broken build.name status → IsFurther s h answer
-  by_done : (build : Build) → IsBuilt s h build → is_unfinished h build.name ≡ true → is_complete s.limits h build ≡ true → answer ≡ answers.Done build.name → IsFurther s h answer
-  by_removal : (number : ℕ) → was_written h number ≡ true → was_asked h number ≡ false → (answer ≡ answers.Removed (page_no number)) ⊎ (answer ≡ answers.Left (page_no number)) → IsFurther s h answer
+  by_store : (g : History) (renderer : RendererId) (b segment : ℕ) (bytes : List ℕ) (n : ℕ) → h ≡ heard g (events.Segment renderer b segment bytes)
+      (answers.Taken segment)
+      → refusal s g (events.Segment renderer b segment bytes) ≡ None → plan_in s g b ≡ Some (plans.File n) → answer ≡ answers.Stored (page_no (next_page g))
+      (piece_no (piece_at s g b segment)) → IsFurther s h answer
+  by_unstore : (g : History) (renderer : RendererId) (b segment : ℕ) (bytes : List ℕ) (n : ℕ) → h ≡ heard g (events.Segment renderer b segment bytes)
+      (answers.Taken segment)
+      → refusal s g (events.Segment renderer b segment bytes) ≡ None → plan_in s g b ≡ Some (plans.File n) → answer
+      ≡ answers.StoreFailed (page_no (next_page g)) → IsFurther s h answer
+  by_drop : (build : Build) → IsBuilt s h build → is_unfinished h build.name ≡ true → is_rooted (page_limit s) h build.name ≡ false → answer
+      ≡ answers.Dropped build.name → IsFurther s h answer
+  by_break : (build : Build) → IsBuilt s h build → is_unfinished h build.name ≡ true → (status : Status) → is_broken_status status ≡ true → answer
+      ≡ answers.Broken build.name status → IsFurther s h answer
+  by_done : (build : Build) → IsBuilt s h build → is_unfinished h build.name ≡ true → is_complete s.limits h build ≡ true → answer ≡ answers.Done build.name
+      → IsFurther s h answer
+  by_removal : (number : ℕ) → was_written h number ≡ true → was_asked h number ≡ false → (answer ≡ answers.Removed (page_no number))
+      ⊎ (answer ≡ answers.Left (page_no number)) → IsFurther s h answer
   by_grant : (build : Build) → IsBuilt s h build → answer ≡ answers.Granted build.name → IsFurther s h answer
-  by_page_job : (number : ℕ) (more : List ℕ) → may_start h ≡ true → chosen s.limits h ≡ number ∷ more → answer ≡ answers.Job (job_no (next_job h)) (piece_list (number ∷ more)) → IsFurther s h answer
+  by_page_job : (number : ℕ) (more : List ℕ) → may_start h ≡ true → chosen s.limits h ≡ number ∷ more → answer ≡ answers.Job (job_no (next_job h))
+      (piece_list (number ∷ more)) → IsFurther s h answer
   by_compaction : (file : Page) → may_start h ≡ true → movable s h ≡ Some file → answer ≡ compaction s h file → IsFurther s h answer
 
 -- an accepted line with its first answer
@@ -255,56 +280,75 @@ still_begun h name (build ∷ list) apart all =
 
 -- blobs that nothing roots; a dropped blob roots none
 abbrev AreUnrooted : Session → History → List Build → Type 0
-AreUnrooted s h list = AllByRecursion (λ (build : Build). is_rooted s.limits.page h build.name ≡ false) list
+AreUnrooted s h list = AllByRecursion (λ (build : Build). is_rooted (page_limit s) h build.name ≡ false) list
 
-dropping_caused : (s : Session) (h : History) (list : List Build) → Distinct list → AllByRecursion (IsBuilt s h) list → AreBegun h list → AreUnrooted s h list → IsCaused s h → IsCaused s (said_all h (map dropping list))
+dropping_caused : (s : Session) (h : History) (list : List Build) → Distinct list → AllByRecursion (IsBuilt s h) list → AreBegun h list → AreUnrooted s h list
+    → IsCaused s h → IsCaused s (said_all h (map dropping list))
 dropping_caused s h [] distinct all begun unrooted caused = caused
 dropping_caused s h (build ∷ list) distinct all begun unrooted caused =
-    dropping_caused s (said h (dropping build)) list distinct.1 all.1 (still_begun h build.name list distinct.0 begun.1) unrooted.1 (by_drop build all.0 begun.0 unrooted.0 refl, caused)
+    dropping_caused s (said h (dropping build)) list distinct.1 all.1 (still_begun h build.name list distinct.0 begun.1) unrooted.1
+    (by_drop build all.0 begun.0 unrooted.0 refl, caused)
 
 -- a built blob that isn't live has no root
-not_rooted : (s : Session) (h : History) (build : Build) → IsBuilt s h build → not (is_live s.limits.page h build.name) ≡ true → is_rooted s.limits.page h build.name ≡ false
-not_rooted s h build found dead = go (is_rooted s.limits.page h build.name) refl
+not_rooted : (s : Session) (h : History) (build : Build) → IsBuilt s h build → not (is_live (page_limit s) h build.name) ≡ true → is_rooted (page_limit s) h
+    build.name ≡ false
+not_rooted s h build found dead = go (is_rooted (page_limit s) h build.name) refl
   where
-    go : (b : Bool) → is_rooted s.limits.page h build.name ≡ b → b ≡ false
+    go : (b : Bool) → is_rooted (page_limit s) h build.name ≡ b → b ≡ false
     go false at = refl
     go true at =
-        let there : named build.name (builds s.limits.page h) ≡ true = sym (found_named (builds s.limits.page h) build.name) ∙ ap (λ (o : Option Build). is_some o) found in
-        let lives : is_live s.limits.page h build.name ≡ true = rooted_live s.limits.page h build.name there at in
+        let there : named build.name (builds (page_limit s) h) ≡ true = sym (found_named (builds (page_limit s) h) build.name) ∙ ap
+        (λ (o : Option Build). is_some o) found in
+        let lives : is_live (page_limit s) h build.name ≡ true = rooted_live (page_limit s) h build.name there at in
         absurd (false_true (subst (λ (b : Bool). not b ≡ true) lives dead))
 
-pub drops_caused : (s : Session) (h : History) → Distinct (builds s.limits.page h) → AllByRecursion (IsBuilt s h) (builds s.limits.page h) → IsCaused s h → IsCaused s (said_all h (drops s h))
+pub drops_caused : (s : Session) (h : History) → Distinct (builds (page_limit s) h) → AllByRecursion (IsBuilt s h) (builds (page_limit s) h) → IsCaused s h
+    → IsCaused s (said_all h (drops s h))
 drops_caused s h distinct all caused =
-    let both = filter_has (IsBuilt s h) (drops_test s h) (reverse (builds s.limits.page h)) (all_reverse (IsBuilt s h) (builds s.limits.page h) all) in
-    dropping_caused s h (filter (drops_test s h) (reverse (builds s.limits.page h))) (distinct_filter (drops_test s h) (reverse (builds s.limits.page h)) (distinct_reverse (builds s.limits.page h) distinct))
-    (for_each (λ (build : Build). IsBuilt s h build × (drops_test s h build ≡ true)) (IsBuilt s h) (filter (drops_test s h) (reverse (builds s.limits.page h))) (λ build e. e.0) both)
-    (for_each (λ (build : Build). IsBuilt s h build × (drops_test s h build ≡ true)) (λ (build : Build). is_unfinished h build.name ≡ true) (filter (drops_test s h) (reverse (builds s.limits.page h)))
-    (λ build e. (and_parts (is_unfinished h build.name) (not (is_live s.limits.page h build.name)) e.1).0) both)
-    (for_each (λ (build : Build). IsBuilt s h build × (drops_test s h build ≡ true)) (λ (build : Build). is_rooted s.limits.page h build.name ≡ false) (filter (drops_test s h) (reverse (builds s.limits.page h)))
-    (λ build e. not_rooted s h build e.0 (and_parts (is_unfinished h build.name) (not (is_live s.limits.page h build.name)) e.1).1) both) caused
+    let both = filter_has (IsBuilt s h) (drops_test s h) (reverse (builds (page_limit s) h)) (all_reverse (IsBuilt s h) (builds (page_limit s) h) all) in
+    dropping_caused s h (filter (drops_test s h) (reverse (builds (page_limit s) h)))
+    (distinct_filter (drops_test s h) (reverse (builds (page_limit s) h)) (distinct_reverse (builds (page_limit s) h) distinct))
+    (for_each (λ (build : Build). IsBuilt s h build × (drops_test s h build ≡ true)) (IsBuilt s h) (filter (drops_test s h) (reverse (builds (page_limit s) h)))
+    (λ build e. e.0) both)
+    (for_each (λ (build : Build). IsBuilt s h build × (drops_test s h build ≡ true)) (λ (build : Build). is_unfinished h build.name ≡ true)
+    (filter (drops_test s h) (reverse (builds (page_limit s) h)))
+    (λ build e. (and_parts (is_unfinished h build.name) (not (is_live (page_limit s) h build.name)) e.1).0) both)
+    (for_each (λ (build : Build). IsBuilt s h build × (drops_test s h build ≡ true)) (λ (build : Build). is_rooted (page_limit s) h build.name ≡ false)
+    (filter (drops_test s h) (reverse (builds (page_limit s) h)))
+    (λ build e. not_rooted s h build e.0 (and_parts (is_unfinished h build.name) (not (is_live (page_limit s) h build.name)) e.1).1) both) caused
 
 -- what belongs to the first test that is true
-first_test : {X : Type 0} (P : X → Type 0) (cases : List (Bool × X)) (x : X) → AllByRecursion (λ (case : Bool × X). case.0 ≡ true → P (case.1)) cases → first_that cases ≡ Some x → P x
+first_test : {X : Type 0} (P : X → Type 0) (cases : List (Bool × X)) (x : X) → AllByRecursion (λ (case : Bool × X). case.0 ≡ true → P (case.1)) cases
+    → first_that cases ≡ Some x → P x
 first_test P [] x all e = cc
 first_test {X = X} P (case ∷ cases) x all e = go (case.0) refl (first_test P cases x all.1) e
   where
-    go : (b : Bool) → case.0 ≡ b → (first_that cases ≡ Some x → P x) → (elim b as (λ (c : Bool). Option X) [ true ↦ Some (case.1) | false ↦ first_that cases ]) ≡ Some x → P x
+    go : (b : Bool) → case.0 ≡ b → (first_that cases ≡ Some x → P x) → (elim b as (λ (c : Bool). Option X) [ true ↦ Some (case.1) | false ↦ first_that cases ])
+        ≡ Some x → P x
     go true at rest f = let same : case.1 ≡ x = cc in subst P same (all.0 at)
     go false at rest f = rest f
 
-ending_caused : (s : Session) (h : History) (build : Build) (answer : Answer) → IsBuilt s h build → is_unfinished h build.name ≡ true → ending s h build ≡ Some answer → IsFurther s h answer
+ending_caused : (s : Session) (h : History) (build : Build) (answer : Answer) → IsBuilt s h build → is_unfinished h build.name ≡ true → ending s h build
+    ≡ Some answer → IsFurther s h answer
 ending_caused s h build answer found begun e =
     first_test (λ (each : Answer). IsFurther s h each) (ending_tests s h build) answer (
       (λ at. by_break build found begun statuses.FileWriteFailed refl refl),
-      ((λ at. by_break build found begun statuses.SourceDied refl refl), ((λ at. by_break build found begun statuses.ReferencedBlobBroken refl refl), ((λ at. by_done build found begun at refl), tt))),
+      (
+        (λ at. by_break build found begun statuses.SourceDied refl refl),
+        ((λ at. by_break build found begun statuses.ReferencedBlobBroken refl refl), ((λ at. by_done build found begun at refl), tt)),
+      ),
     ) e
 
-pub endings_caused : (s : Session) (h : History) (list : List Build) → AllByRecursion (IsBuilt s h) list → IsCaused s h → IsCaused s (said_all h (endings_of s h list))
+pub endings_caused : (s : Session) (h : History) (list : List Build) → AllByRecursion (IsBuilt s h) list → IsCaused s h
+    → IsCaused s (said_all h (endings_of s h list))
 endings_caused s h [] all caused = caused
-endings_caused s h (build ∷ list) all caused = go (is_unfinished h build.name) refl (ending s h build) refl (λ answer before. endings_caused s (said h answer) list all.1 before) (endings_caused s h list all.1 caused)
+endings_caused s h (build ∷ list) all caused = go (is_unfinished h build.name) refl (ending s h build) refl
+    (λ answer before. endings_caused s (said h answer) list all.1 before) (endings_caused s h list all.1 caused)
   where
-    go : (b : Bool) → is_unfinished h build.name ≡ b → (found : Option Answer) → ending s h build ≡ found → ((answer : Answer) → IsCaused s (said h answer) → IsCaused s (said_all (said h answer) (endings_of s (said h answer) list)))
-        → IsCaused s (said_all h (endings_of s h list)) → IsCaused s (said_all h ((if b then option_to_list found else []) ++ endings_of s (said_all h (if b then option_to_list found else [])) list))
+    go : (b : Bool) → is_unfinished h build.name ≡ b → (found : Option Answer) → ending s h build ≡ found
+        → ((answer : Answer) → IsCaused s (said h answer) → IsCaused s (said_all (said h answer) (endings_of s (said h answer) list)))
+        → IsCaused s (said_all h (endings_of s h list)) → IsCaused s
+        (said_all h ((if b then option_to_list found else []) ++ endings_of s (said_all h (if b then option_to_list found else [])) list))
     go false at found e rest none = none
     go true at None e rest none = none
     go true at (Some answer) e rest none = rest answer (ending_caused s h build answer all.0 at e, caused)
@@ -318,7 +362,8 @@ AreApartPages (file ∷ list) = (list_any (λ (each : Page). each.number == file
 abbrev AreLeft : History → List Page → Type 0
 AreLeft h list = AllByRecursion (λ (file : Page). (was_written h file.number ≡ true) × (was_asked h file.number ≡ false)) list
 
-still_left : (h : History) (answer : Answer) (number : ℕ) (list : List Page) → pages (said h answer) ≡ pages h → asked (said h answer) ≡ asked h ++ number ∷ [] → list_any (λ (each : Page). each.number == number) list ≡ false
+still_left : (h : History) (answer : Answer) (number : ℕ) (list : List Page) → pages (said h answer) ≡ pages h → asked (said h answer) ≡ asked h ++ number ∷ []
+    → list_any (λ (each : Page). each.number == number) list ≡ false
     → AreLeft h list → AreLeft (said h answer) list
 still_left h answer number [] written asks apart all = tt
 still_left h answer number (file ∷ list) written asks apart all =
@@ -337,17 +382,21 @@ still_left h answer number (file ∷ list) written asks apart all =
         let parts = or_parts (file.number == number) (list_any (λ (each : Page). each.number == number) list) apart in
         ne_eqb number file.number (λ e. eqb-false file.number number parts.0 (sym e))
 
-removing_caused : (s : Session) (unremoved : List ℕ) (h : History) (list : List Page) → AreApartPages list → AreLeft h list → IsCaused s h → IsCaused s (said_all h (map (removal unremoved) list))
+removing_caused : (s : Session) (unremoved : List ℕ) (h : History) (list : List Page) → AreApartPages list → AreLeft h list → IsCaused s h
+    → IsCaused s (said_all h (map (removal unremoved) list))
 removing_caused s unremoved h [] apart all caused = caused
 removing_caused s unremoved h (file ∷ list) apart all caused =
     go (list_any (λ (number : ℕ). number == file.number) unremoved) (λ next left before. removing_caused s unremoved next list apart.1 left before)
   where
     go : (b : Bool) → ((next : History) → AreLeft next list → IsCaused s next → IsCaused s (said_all next (map (removal unremoved) list)))
-        → IsCaused s (said_all (said h (if b then answers.Left (page_no file.number) else answers.Removed (page_no file.number))) (map (removal unremoved) list))
+        → IsCaused s (said_all (said h (if b then answers.Left (page_no file.number) else answers.Removed (page_no file.number)))
+        (map (removal unremoved) list))
     go true rest =
-        rest (said h (answers.Left (page_no file.number))) (still_left h (answers.Left (page_no file.number)) file.number list refl refl apart.0 all.1) (by_removal file.number all.0.0 all.0.1 (inr refl), caused)
+        rest (said h (answers.Left (page_no file.number))) (still_left h (answers.Left (page_no file.number)) file.number list refl refl apart.0 all.1)
+        (by_removal file.number all.0.0 all.0.1 (inr refl), caused)
     go false rest =
-        rest (said h (answers.Removed (page_no file.number))) (still_left h (answers.Removed (page_no file.number)) file.number list refl refl apart.0 all.1) (by_removal file.number all.0.0 all.0.1 (inl refl), caused)
+        rest (said h (answers.Removed (page_no file.number))) (still_left h (answers.Removed (page_no file.number)) file.number list refl refl apart.0 all.1)
+        (by_removal file.number all.0.0 all.0.1 (inl refl), caused)
 
 apart_filter : (test : Page → Bool) (list : List Page) → AreApartPages list → AreApartPages (filter test list)
 apart_filter test [] apart = tt
@@ -357,19 +406,28 @@ apart_filter test (file ∷ list) apart = go (test file) (apart_filter test list
     go true rest = (none_filtered (λ (each : Page). each.number == file.number) test list apart.0, rest)
     go false rest = rest
 
-pub removals_caused : (s : Session) (unremoved : List ℕ) (h : History) → AreApartPages (pages h) → IsCaused s h → IsCaused s (said_all h (removals s unremoved h))
+pub removals_caused : (s : Session) (unremoved : List ℕ) (h : History) → AreApartPages (pages h) → IsCaused s h
+    → IsCaused s (said_all h (removals s unremoved h))
 removals_caused s unremoved h apart caused =
-    let due = is_due h (files s.limits.page h) in
-    removing_caused s unremoved h (filter (is_due h (files s.limits.page h)) (pages h)) (apart_filter (is_due h (files s.limits.page h)) (pages h) apart)
-    (for_each (λ (file : Page). (was_written h file.number ≡ true) × (is_due h (files s.limits.page h) file ≡ true)) (λ (file : Page). (was_written h file.number ≡ true) × (was_asked h file.number ≡ false))
-    (filter (is_due h (files s.limits.page h)) (pages h))
-    (λ file e. (e.0, not_true (was_asked h file.number) (and_parts (not (list_any (λ (each : Page). each.number == file.number) (files s.limits.page h))) (not (was_asked h file.number)) e.1).1))
-    (filter_has (λ (file : Page). was_written h file.number ≡ true) (is_due h (files s.limits.page h)) (pages h) (all_numbered (λ (file : Page). file.number) (pages h)))) caused
+    let due = is_due h (files (page_limit s) h) in
+    removing_caused s unremoved h (filter (is_due h (files (page_limit s) h)) (pages h)) (apart_filter (is_due h (files (page_limit s) h)) (pages h) apart)
+    (for_each (λ (file : Page). (was_written h file.number ≡ true) × (is_due h (files (page_limit s) h) file ≡ true))
+    (λ (file : Page). (was_written h file.number ≡ true) × (was_asked h file.number ≡ false))
+    (filter (is_due h (files (page_limit s) h)) (pages h))
+    (λ file e. (
+      e.0,
+      not_true (was_asked h file.number) (and_parts (not (list_any (λ (each : Page). each.number == file.number) (files (page_limit s) h)))
+          (not (was_asked h file.number)) e.1).1,
+    ))
+    (filter_has (λ (file : Page). was_written h file.number ≡ true) (is_due h (files (page_limit s) h)) (pages h)
+    (all_numbered (λ (file : Page). file.number) (pages h)))) caused
 
-pub granting_caused : (s : Session) (h : History) (list : List Build) → AllByRecursion (IsBuilt s h) list → IsCaused s h → IsCaused s (said_all h (grants_of s h list))
+pub granting_caused : (s : Session) (h : History) (list : List Build) → AllByRecursion (IsBuilt s h) list → IsCaused s h
+    → IsCaused s (said_all h (grants_of s h list))
 granting_caused s h [] all caused = caused
 granting_caused s h (build ∷ list) all caused =
-    go (nat_le (memory s.limits.page h + own_bytes build.parts) s.limits.memory) (granting_caused s (said h (answers.Granted build.name)) list all.1 (by_grant build all.0 refl, caused))
+    go (nat_le (memory (page_limit s) h + own_bytes build.parts) s.limits.memory)
+    (granting_caused s (said h (answers.Granted build.name)) list all.1 (by_grant build all.0 refl, caused))
   where
     go : (b : Bool) → IsCaused s (said_all (said h (answers.Granted build.name)) (grants_of s (said h (answers.Granted build.name)) list))
         → IsCaused s (said_all h (if b then answers.Granted build.name ∷ grants_of s (said h (answers.Granted build.name)) list else []))
@@ -377,17 +435,19 @@ granting_caused s h (build ∷ list) all caused =
     go false rest = caused
 
 pub page_jobs_caused : (s : Session) (h : History) → IsCaused s h → IsCaused s (said_all h (page_jobs s h))
-page_jobs_caused s h caused = go (may_start h && nat_lt 0 (length (waits s.limits.page h))) refl (chosen s.limits h) refl
+page_jobs_caused s h caused = go (may_start h && nat_lt 0 (length (waits (page_limit s) h))) refl (chosen s.limits h) refl
   where
-    go : (b : Bool) → (may_start h && nat_lt 0 (length (waits s.limits.page h))) ≡ b → (list : List ℕ) → chosen s.limits h ≡ list → IsCaused s (said_all h (if b then page_job_of h list else []))
+    go : (b : Bool) → (may_start h && nat_lt 0 (length (waits (page_limit s) h))) ≡ b → (list : List ℕ) → chosen s.limits h ≡ list
+        → IsCaused s (said_all h (if b then page_job_of h list else []))
     go false at list e = caused
     go true at [] e = caused
-    go true at (number ∷ more) e = (by_page_job number more (and_parts (may_start h) (nat_lt 0 (length (waits s.limits.page h))) at).0 e refl, caused)
+    go true at (number ∷ more) e = (by_page_job number more (and_parts (may_start h) (nat_lt 0 (length (waits (page_limit s) h))) at).0 e refl, caused)
 
 pub compactions_caused : (s : Session) (h : History) → IsCaused s h → IsCaused s (said_all h (compactions s h))
 compactions_caused s h caused = go (may_start h) refl (movable s h) refl
   where
-    go : (b : Bool) → may_start h ≡ b → (found : Option Page) → movable s h ≡ found → IsCaused s (said_all h (if b then option_to_list (option_map (compaction s h) found) else []))
+    go : (b : Bool) → may_start h ≡ b → (found : Option Page) → movable s h ≡ found
+        → IsCaused s (said_all h (if b then option_to_list (option_map (compaction s h) found) else []))
     go false at found e = caused
     go true at None e = caused
     go true at (Some file) e = (by_compaction file at e refl, caused)

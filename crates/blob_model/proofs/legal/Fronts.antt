@@ -13,6 +13,7 @@ pub fronts : (outside : Outside) (front more : List Group) → IsLegal outside (
 fronts outside [] more legal = tt
 fronts outside (group ∷ front) more legal = (legal.0, legal.1, legal.2, front_legal (session outside legal.0 legal.1) start front more legal.3)
 
-pub more_legal : (s : Session) (h : History) (groups : List Group) (group : Group) → IsLegalFrom s h groups → IsLegalGroup s (history_from h groups) group → IsLegalFrom s h (groups ++ group ∷ [])
+pub more_legal : (s : Session) (h : History) (groups : List Group) (group : Group) → IsLegalFrom s h groups → IsLegalGroup s (history_from h groups) group
+    → IsLegalFrom s h (groups ++ group ∷ [])
 more_legal s h [] group legal one = (one, tt)
 more_legal s h (first ∷ groups) group legal one = (legal.0, more_legal s (after h first.event first.answers) groups group legal.1 one)

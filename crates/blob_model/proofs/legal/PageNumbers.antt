@@ -5,7 +5,7 @@ use Rattle.answer_text.specs.declared.answer.Answer.{Answer}
 use Rattle.answer_text.specs.declared.answer.Answer.TheVariants as answers
 use Rattle.blob_words.specs.declared.number.JobNo.{JobNo}
 use Rattle.session_script.specs.declared.event.Event.{Event}
-use Rattle.blob_model.specs.Session.{Session}
+use Rattle.blob_model.specs.Session.{Session, page_limit}
 use Rattle.blob_model.specs.History.{History, start, heard, refused, said}
 use Rattle.blob_model.specs.Pages.{Page, pages, pages_after, next_page, next_page_after}
 use Rattle.blob_model.specs.Jobs.{in_flight}
@@ -45,7 +45,8 @@ idle_takes answer next e = tt
 pub same_first : (a b : Answer) (xs ys : List Answer) → (a ∷ xs) ≡ (b ∷ ys) → a ≡ b
 same_first a b xs ys e = cc
 
-reply_takes : (h : History) (job : JobNo) (source : Option ℕ) (list : List ℕ) (answer : Answer) (rest : List Answer) → IsOneOf (answer ∷ rest) ((job_done h job source list ∷ []) ∷ job_failed h job source list)
+reply_takes : (h : History) (job : JobNo) (source : Option ℕ) (list : List ℕ) (answer : Answer) (rest : List Answer) → IsOneOf (answer ∷ rest)
+    ((job_done h job source list ∷ []) ∷ job_failed h job source list)
     → Takes answer (next_page h)
 reply_takes h job source [] answer rest (inl e) = subst (λ (a : Answer). Takes a (next_page h)) (sym (same_first answer (answers.Empty job) rest [] e)) tt
 reply_takes h job source [] answer rest (inr never) = absurd never
@@ -53,17 +54,23 @@ reply_takes h job None (number ∷ numbers) answer rest (inl e) = subst (λ (a :
 reply_takes h job None (number ∷ numbers) answer rest (inr (inl e)) = subst (λ (a : Answer). Takes a (next_page h)) (sym (same_first answer _ rest [] e)) refl
 reply_takes h job None (number ∷ numbers) answer rest (inr (inr never)) = absurd never
 reply_takes h job (Some file) (number ∷ numbers) answer rest (inl e) = subst (λ (a : Answer). Takes a (next_page h)) (sym (same_first answer _ rest [] e)) refl
-reply_takes h job (Some file) (number ∷ numbers) answer rest (inr (inl e)) = subst (λ (a : Answer). Takes a (next_page h)) (sym (same_first answer _ rest [] e)) refl
-reply_takes h job (Some file) (number ∷ numbers) answer rest (inr (inr (inl e))) = subst (λ (a : Answer). Takes a (next_page h)) (sym (same_first answer _ rest [] e)) tt
+reply_takes h job (Some file) (number ∷ numbers) answer rest (inr (inl e)) = subst (λ (a : Answer). Takes a (next_page h)) (sym (same_first answer _ rest [] e))
+    refl
+reply_takes h job (Some file) (number ∷ numbers) answer rest (inr (inr (inl e))) = subst (λ (a : Answer). Takes a (next_page h))
+    (sym (same_first answer _ rest [] e)) tt
 reply_takes h job (Some file) (number ∷ numbers) answer rest (inr (inr (inr never))) = absurd never
 
 -- the first answer of a line takes the next number, or none
-first_takes : (s : Session) (h : History) (event : Event) (answer : Answer) (rest : List Answer) → OwnCase s h event (answer ∷ rest) → Takes answer (next_page h)
-first_takes s h event answer rest (idle one e free) = subst (λ (a : Answer). Takes a (next_page h)) (sym (same_first answer one rest [] e)) (idle_takes one (next_page h) free)
+first_takes : (s : Session) (h : History) (event : Event) (answer : Answer) (rest : List Answer) → OwnCase s h event (answer ∷ rest)
+    → Takes answer (next_page h)
+first_takes s h event answer rest (idle one e free) = subst (λ (a : Answer). Takes a (next_page h)) (sym (same_first answer one rest [] e))
+    (idle_takes one (next_page h) free)
 first_takes s h event answer rest (breaks b status broken building e) = subst (λ (a : Answer). Takes a (next_page h)) (sym (same_first answer _ rest [] e)) tt
-first_takes s h event answer rest (stores renderer b segment bytes n same at e) = subst (λ (a : Answer). Takes a (next_page h)) (sym (same_first answer _ rest _ e)) tt
-first_takes s h event answer rest (unstores renderer b segment bytes n same at e) = subst (λ (a : Answer). Takes a (next_page h)) (sym (same_first answer _ rest _ e)) tt
-first_takes s h event answer rest (replies job one same e reply done) = reply_takes h job (source_of (in_flight h)) (job_left s.limits.page h) answer rest done
+first_takes s h event answer rest (stores renderer b segment bytes n same at e) = subst (λ (a : Answer). Takes a (next_page h))
+    (sym (same_first answer _ rest _ e)) tt
+first_takes s h event answer rest (unstores renderer b segment bytes n same at e) = subst (λ (a : Answer). Takes a (next_page h))
+    (sym (same_first answer _ rest _ e)) tt
+first_takes s h event answer rest (replies job one same e reply done) = reply_takes h job (source_of (in_flight h)) (job_left (page_limit s) h) answer rest done
 first_takes s h event answer rest (loses job same e) = subst (λ (a : Answer). Takes a (next_page h)) (sym (same_first answer _ rest [] e)) tt
 
 pub heard_takes : (s : Session) (h : History) (event : Event) (answer : Answer) → IsHeard s h event answer → Takes answer (next_page h)
@@ -93,11 +100,13 @@ rise_more : (from below : ℕ) (xs : List ℕ) → from ≤ below → RiseWithin
 rise_more from below [] low all = (low, omega arith, tt)
 rise_more from below (x ∷ xs) low all = let here = all.1 in (all.0, omega (arith, here), rise_more (x + 1) below xs (omega (arith, here)) all.2)
 
-numbers_more : (list : List Page) (file : Page) → map (λ (each : Page). each.number) (list ++ file ∷ []) ≡ map (λ (each : Page). each.number) list ++ file.number ∷ []
+numbers_more : (list : List Page) (file : Page) → map (λ (each : Page). each.number) (list ++ file ∷ []) ≡ map (λ (each : Page). each.number) list
+    ++ file.number ∷ []
 numbers_more [] file = refl
 numbers_more (x ∷ list) file = ap (λ (xs : List ℕ). x.number ∷ xs) (numbers_more list file)
 
-written_rise : (next number : ℕ) (list : List Page) (file : Page) → file.number ≡ number → number ≡ next → RiseWithin 0 next (map (λ (each : Page). each.number) list)
+written_rise : (next number : ℕ) (list : List Page) (file : Page) → file.number ≡ number → number ≡ next
+    → RiseWithin 0 next (map (λ (each : Page). each.number) list)
     → RiseWithin 0 (next + 1) (map (λ (each : Page). each.number) (list ++ file ∷ []))
 written_rise next number list file same takes all =
     subst (RiseWithin 0 (next + 1)) (sym (numbers_more list file ∙ ap (λ (n : ℕ). map (λ (each : Page). each.number) list ++ n ∷ []) (same ∙ takes)))

@@ -14,7 +14,7 @@ use Rattle.session_script.specs.declared.event.Event.TheVariants as events
 use Rattle.answer_text.specs.declared.answer.Answer.{Answer}
 use Rattle.answer_text.specs.declared.answer.Answer.TheVariants as answers
 use Rattle.answer_text.specs.declared.refusal.Refusal.{Refusal}
-use Rattle.blob_model.specs.Session.{Slot, Session}
+use Rattle.blob_model.specs.Session.{Slot, Session, page_limit}
 use Rattle.blob_model.specs.History.{History}
 use Rattle.blob_model.specs.Builds.{Cell, sent, filed, lent}
 use Rattle.blob_model.specs.Standing.{ended}
@@ -60,9 +60,11 @@ or_right false y e f = f
 
 one_cell : (s : Session) (h : History) (cell : Cell) (a b : ℕ) → AllTold s.outside → agrees s h cell a ≡ true → agrees s h cell b ≡ true → a ≡ b
 one_cell s h cell a b all e f =
-    one_byte (value s h cell) a b (or_right (is_untold s h cell) (is_byte (value s h cell) a) (told s h cell all) e) (or_right (is_untold s h cell) (is_byte (value s h cell) b) (told s h cell all) f)
+    one_byte (value s h cell) a b (or_right (is_untold s h cell) (is_byte (value s h cell) a) (told s h cell all) e)
+    (or_right (is_untold s h cell) (is_byte (value s h cell) b) (told s h cell all) f)
 
-one_chunk : (s : Session) (h : History) (cells : List Cell) (xs ys : List ℕ) → AllTold s.outside → agree s h cells xs ≡ true → agree s h cells ys ≡ true → xs ≡ ys
+one_chunk : (s : Session) (h : History) (cells : List Cell) (xs ys : List ℕ) → AllTold s.outside → agree s h cells xs ≡ true → agree s h cells ys ≡ true → xs
+    ≡ ys
 one_chunk s h [] [] [] all e f = refl
 one_chunk s h [] [] (y ∷ ys) all e f = absurd (false_true f)
 one_chunk s h [] (x ∷ xs) ys all e f = absurd (false_true e)
@@ -108,7 +110,7 @@ job_faulty h job (Some file) (number ∷ numbers) own (inr (inr later)) fine = l
 
 failing_faulty : (s : Session) (h : History) (event : Event) → Faulty (failing s h event)
 failing_faulty s h (events.Segment renderer b segment bytes) = unstored_faulty s h segment (plan_in s h b)
-failing_faulty s h (events.Disk job) = job_faulty h job (source_of (in_flight h)) (job_left s.limits.page h)
+failing_faulty s h (events.Disk job) = job_faulty h job (source_of (in_flight h)) (job_left (page_limit s) h)
 failing_faulty s h event = none_faulty
 
 place_faulty : (reader : ReaderId) (at : Place) → Faulty (page_fault reader at)
@@ -119,17 +121,18 @@ place_faulty reader reserved own one fine = one
 
 piece_faulty : (s : Session) (h : History) (reader : ReaderId) (piece : Option Piece) → Faulty (sent_fault s h reader piece)
 piece_faulty s h reader None own one fine = one
-piece_faulty s h reader (Some piece) own one fine = place_faulty reader (place s.limits.page h piece) own one fine
+piece_faulty s h reader (Some piece) own one fine = place_faulty reader (place (page_limit s) h piece) own one fine
 
 cell_faulty : (s : Session) (h : History) (reader : ReaderId) (cell : Cell) → Faulty (cell_fault s h reader cell)
-cell_faulty s h reader (sent blob index) own one fine = piece_faulty s h reader (piece_with (pieces s.limits.page h) (sent blob index)) own one fine
+cell_faulty s h reader (sent blob index) own one fine = piece_faulty s h reader (piece_with (pieces (page_limit s) h) (sent blob index)) own one fine
 cell_faulty s h reader (filed name stamp index) own one fine = one
 cell_faulty s h reader (lent slot index) own (inl same) fine = false_true (subst (λ (l : List Answer). good l ≡ true) same fine)
 cell_faulty s h reader (lent slot index) own (inr later) fine = later
 
 read_faulty : (s : Session) (h : History) (reader : ReaderId) (cells : List Cell) → Faulty (read_faults s h reader cells)
 read_faulty s h reader [] = none_faulty
-read_faulty s h reader (cell ∷ cells) = both_faulty (cell_fault s h reader cell) (read_faults s h reader cells) (cell_faulty s h reader cell) (read_faulty s h reader cells)
+read_faulty s h reader (cell ∷ cells) = both_faulty (cell_fault s h reader cell) (read_faults s h reader cells) (cell_faulty s h reader cell)
+    (read_faulty s h reader cells)
 
 -- ---- one answer
 
@@ -137,7 +140,8 @@ first_of : (list : List Answer) (lists : List (List Answer)) (own : List Answer)
 first_of list lists own bad (inl same) fine = same
 first_of list lists own bad (inr later) fine = absurd (bad own later fine)
 
-one_given : (s : Session) (h : History) (reader : ReaderId) (cells : List Cell) (own other : List Answer) → AllTold s.outside → IsGiven s h reader cells own → IsGiven s h reader cells other → own ≡ other
+one_given : (s : Session) (h : History) (reader : ReaderId) (cells : List Cell) (own other : List Answer) → AllTold s.outside → IsGiven s h reader cells own
+    → IsGiven s h reader cells other → own ≡ other
 one_given s h reader cells own other all a b =
     let bytes : a.0 ≡ b.0 = one_chunk s h cells a.0 b.0 all a.2 b.2 in
     a.1 ∙ ap (λ (list : List ℕ). answers.Given reader list ∷ []) bytes ∙ sym b.1
@@ -171,9 +175,10 @@ one_step s h reader (Some open_reader) own other all a b e f = one_step_by s h r
 
 one_accepted : (s : Session) (h : History) (event : Event) (own other : List Answer) → AllTold s.outside
     → IsAccepted s h event own → IsAccepted s h event other → good own ≡ true → good other ≡ true → own ≡ other
-one_accepted s h (events.Step reader) own other all a b e f = one_step s h reader (reader_at s.limits.page h reader.0) own other all a b e f
+one_accepted s h (events.Step reader) own other all a b e f = one_step s h reader (reader_at (page_limit s) h reader.0) own other all a b e f
 one_accepted s h event own other all a b e f =
-    first_of (accepted s h event) (failing s h event) own (failing_faulty s h event) a e ∙ sym (first_of (accepted s h event) (failing s h event) other (failing_faulty s h event) b f)
+    first_of (accepted s h event) (failing s h event) own (failing_faulty s h event) a e ∙ sym
+    (first_of (accepted s h event) (failing s h event) other (failing_faulty s h event) b f)
 
 one_own_by : (s : Session) (h : History) (event : Event) (why : Option Refusal) (own other : List Answer) → AllTold s.outside
     → IsOwnBy s h event why own → IsOwnBy s h event why other → good own ≡ true → good other ≡ true → own ≡ other

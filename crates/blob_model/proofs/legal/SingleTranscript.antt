@@ -7,7 +7,7 @@ use Rattle.blob_words.specs.declared.version.Version.{Version}
 use Rattle.answer_text.specs.declared.answer.Answer.{Answer}
 use Rattle.answer_text.specs.declared.answer.Answer.TheVariants as answers
 use Rattle.answer_text.specs.declared.group.Group.{Group}
-use Rattle.blob_model.specs.Session.{Outside, Session}
+use Rattle.blob_model.specs.Session.{Outside, Session, page_limit}
 use Rattle.blob_model.specs.History.{History, start, after}
 use Rattle.blob_model.specs.Tally.{tally}
 use Rattle.blob_model.specs.Settle.{settle}
@@ -28,7 +28,8 @@ good_front own rest list e fine =
     (and_parts (good own) (good rest) (sym (list_all-append is_good own rest) ∙ whole)).0
 
 -- the answers of two groups of one event
-one_answers : (s : Session) (h : History) (a b : Group) → AllTold s.outside → a.event ≡ b.event → IsLegalGroup s h a → IsLegalGroup s h b → good a.answers ≡ true → good b.answers ≡ true → a.answers ≡ b.answers
+one_answers : (s : Session) (h : History) (a b : Group) → AllTold s.outside → a.event ≡ b.event → IsLegalGroup s h a → IsLegalGroup s h b → good a.answers
+    ≡ true → good b.answers ≡ true → a.answers ≡ b.answers
 one_answers s h a b all event x y e f =
     let own_a = x.own in
     let own_b = y.own in
@@ -40,13 +41,15 @@ one_answers s h a b all event x y e f =
     (λ i. same i ++ settle s (left i) (after h (event i) (same i))) in
     x.settles ∙ moved ∙ sym y.settles
 
-one_group : (s : Session) (h : History) (a b : Group) → AllTold s.outside → a.event ≡ b.event → IsLegalGroup s h a → IsLegalGroup s h b → good a.answers ≡ true → good b.answers ≡ true → a ≡ b
+one_group : (s : Session) (h : History) (a b : Group) → AllTold s.outside → a.event ≡ b.event → IsLegalGroup s h a → IsLegalGroup s h b → good a.answers ≡ true
+    → good b.answers ≡ true → a ≡ b
 one_group s h a b all event x y e f =
     let list : a.answers ≡ b.answers = one_answers s h a b all event x y e f in
-    let numbers : a.tally ≡ b.tally = x.counts ∙ (λ i. tally s.limits.page (after h (event i) (list i))) ∙ sym y.counts in
+    let numbers : a.tally ≡ b.tally = x.counts ∙ (λ i. tally (page_limit s) (after h (event i) (list i))) ∙ sym y.counts in
     λ i. record { event = event i; answers = list i; tally = numbers i }
 
-one_from : (s : Session) (h : History) (groups others : List Group) → AllTold s.outside → IsLegalFrom s h groups → IsLegalFrom s h others → events_of groups ≡ events_of others → are_good groups ≡ true → are_good others ≡ true → groups ≡ others
+one_from : (s : Session) (h : History) (groups others : List Group) → AllTold s.outside → IsLegalFrom s h groups → IsLegalFrom s h others → events_of groups
+    ≡ events_of others → are_good groups ≡ true → are_good others ≡ true → groups ≡ others
 one_from s h [] [] all x y same e f = refl
 one_from s h [] (b ∷ others) all x y same e f = cc
 one_from s h (a ∷ groups) [] all x y same e f = cc
@@ -60,10 +63,12 @@ one_from s h (a ∷ groups) (b ∷ others) all x y same e f =
     let tail : groups ≡ others = one_from s (after h a.event a.answers) groups others all x.1 later more p.1 q.1 in
     λ i. head i ∷ tail i
 
-opening_event : (version : Version) (l : Limits) (version' : Version) (l' : Limits) → (opening version l).event ≡ (opening version' l').event → opening version l ≡ opening version' l'
+opening_event : (version : Version) (l : Limits) (version' : Version) (l' : Limits) → (opening version l).event ≡ (opening version' l').event
+    → opening version l ≡ opening version' l'
 opening_event version l version' l' e = λ i. record { event = e i; answers = answers.Good ∷ []; tally = record { pieces = 0; memory = 0; files = 0; disk = 0 } }
 
-pub one_transcript : (outside : Outside) (groups others : List Group) → AllTold outside → IsLegal outside groups → IsLegal outside others → events_of groups ≡ events_of others
+pub one_transcript : (outside : Outside) (groups others : List Group) → AllTold outside → IsLegal outside groups → IsLegal outside others → events_of groups
+    ≡ events_of others
     → are_good groups ≡ true → are_good others ≡ true → groups ≡ others
 one_transcript outside [] [] all x y same e f = refl
 one_transcript outside [] (b ∷ others) all x y same e f = cc

@@ -35,7 +35,8 @@ distinct_more : (list : List Build) (build : Build) → Distinct list → named 
 distinct_more [] build distinct e = (refl, tt)
 distinct_more (x ∷ list) build distinct e =
     let parts = or_parts (x.name == build.name) (named build.name list) e in (
-      list_any-append (λ (each : Build). each.name == x.name) list (build ∷ []) ∙ or_from (named x.name list) ((build.name == x.name) || false) distinct.0 (or_from (build.name == x.name) false (not_turned x.name build.name parts.0) refl),
+      list_any-append (λ (each : Build). each.name == x.name) list (build ∷ []) ∙ or_from (named x.name list) ((build.name == x.name) || false) distinct.0
+          (or_from (build.name == x.name) false (not_turned x.name build.name parts.0) refl),
       distinct_more list build distinct.1 parts.1,
     )
 
@@ -44,32 +45,40 @@ not_in_reverse name list e = go (named name (reverse list)) refl
   where
     go : (b : Bool) → named name (reverse list) ≡ b → b ≡ false
     go false at = refl
-    go true at = absurd (false_true (sym e ∙ subst (λ (xs : List Build). named name xs ≡ true) (reverse-reverse list) (any_reverse (λ (each : Build). each.name == name) (reverse list) at)))
+    go true at =
+        absurd
+        (false_true (sym e ∙ subst (λ (xs : List Build). named name xs ≡ true) (reverse-reverse list)
+        (any_reverse (λ (each : Build). each.name == name) (reverse list) at)))
 
 pub distinct_reverse : (list : List Build) → Distinct list → Distinct (reverse list)
 distinct_reverse [] distinct = tt
 distinct_reverse (build ∷ list) distinct =
-    subst Distinct (sym (reverse-append (build ∷ []) list)) (distinct_more (reverse list) build (distinct_reverse list distinct.1) (not_in_reverse build.name list distinct.0))
+    subst Distinct (sym (reverse-append (build ∷ []) list)) (distinct_more (reverse list) build (distinct_reverse list distinct.1)
+    (not_in_reverse build.name list distinct.0))
 
 -- ---- the live ones
 
 -- a live name is an earlier one or a later one
-live_names : (page : ℕ) (h : History) (name : ℕ) (list later : List Build) → named name list ≡ false → named name later ≡ false → named name (live_from page h list later) ≡ false
+live_names : (page : ℕ) (h : History) (name : ℕ) (list later : List Build) → named name list ≡ false → named name later ≡ false
+    → named name (live_from page h list later) ≡ false
 live_names page h name [] later e f = f
 live_names page h name (build ∷ list) later e f =
     let parts = or_parts (build.name == name) (named name list) e in
     go (is_rooted page h build.name || is_needed h later build.name) parts.0 (λ next. live_names page h name list next parts.1)
   where
-    go : (b : Bool) → (build.name == name) ≡ false → ((next : List Build) → named name next ≡ false → named name (live_from page h list next) ≡ false) → named name (live_from page h list (cond b (build ∷ later) later)) ≡ false
+    go : (b : Bool) → (build.name == name) ≡ false → ((next : List Build) → named name next ≡ false → named name (live_from page h list next) ≡ false)
+        → named name (live_from page h list (cond b (build ∷ later) later)) ≡ false
     go true head rest = rest (build ∷ later) (or_from (build.name == name) (named name later) head f)
     go false head rest = rest later f
 
-filter_last : (test : Build → Bool) (list : List Build) (build : Build) → filter test (list ++ build ∷ []) ≡ filter test list ++ cond (test build) (build ∷ []) []
+filter_last : (test : Build → Bool) (list : List Build) (build : Build) → filter test (list ++ build ∷ []) ≡ filter test list ++ cond (test build) (build ∷ [])
+    []
 filter_last test [] build = refl
 filter_last test (x ∷ list) build = go (test x) (filter_last test list build)
   where
     go : (b : Bool) → filter test (list ++ build ∷ []) ≡ filter test list ++ cond (test build) (build ∷ []) []
-        → cond b (x ∷ filter test (list ++ build ∷ [])) (filter test (list ++ build ∷ [])) ≡ cond b (x ∷ filter test list) (filter test list) ++ cond (test build) (build ∷ []) []
+        → cond b (x ∷ filter test (list ++ build ∷ [])) (filter test (list ++ build ∷ [])) ≡ cond b (x ∷ filter test list) (filter test list)
+        ++ cond (test build) (build ∷ []) []
     go true rest = ap (λ (xs : List Build). x ∷ xs) rest
     go false rest = rest
 
@@ -77,7 +86,8 @@ filter_last test (x ∷ list) build = go (test x) (filter_last test list build)
 abbrev ends_live : ℕ → History → List Build → List Build → Build → Bool
 ends_live page h list later build = named build.name (live_from page h list later)
 
-live_parts : (page : ℕ) (h : History) (list later : List Build) → Distinct list → AreFresh list later → live_from page h list later ≡ filter (ends_live page h list later) (reverse list) ++ later
+live_parts : (page : ℕ) (h : History) (list later : List Build) → Distinct list → AreFresh list later → live_from page h list later
+    ≡ filter (ends_live page h list later) (reverse list) ++ later
 live_parts page h [] later distinct fresh = refl
 live_parts page h (build ∷ list) later distinct fresh =
     go (is_rooted page h build.name || is_needed h later build.name) (λ next f. live_parts page h list next distinct.1 f)

@@ -6,7 +6,7 @@ use Rattle.std.specs.List.{AllByRecursion}
 use Rattle.std.proofs.lemmas.Bool.{and_parts, leb-false, ltb-false}
 use Rattle.std.proofs.lemmas.List.Sums.{sum_by-cons}
 use Rattle.answer_text.specs.declared.answer.Answer.{Answer}
-use Rattle.blob_model.specs.Session.{Session}
+use Rattle.blob_model.specs.Session.{Session, page_limit}
 use Rattle.blob_model.specs.History.{History, said_all}
 use Rattle.blob_model.specs.Builds.{builds}
 use Rattle.blob_model.specs.Pieces.{Piece, pieces}
@@ -80,16 +80,17 @@ second_false true y e f = e
 second_false false y e f = absurd (false_true f)
 
 pub thin_stays : (s : Session) (h : History) → IsSettled s h → paging h ≡ true → in_flight h ≡ None
-    → AllByRecursion (λ (page : Page). is_thin_now s h page ≡ true → s.limits.disk - disk s.limits.page h < reached_bytes s h page) (files s.limits.page h)
+    → AllByRecursion (λ (page : Page). is_thin_now s h page ≡ true → s.limits.disk - disk (page_limit s) h < reached_bytes s h page) (files (page_limit s) h)
 thin_stays s h settled on idle =
-    let all = builds s.limits.page h in
+    let all = builds (page_limit s) h in
     let none : movable s h ≡ None = no_movable s h (nothing_moves s h settled) on idle in
     for_all
-    (λ (page : Page). can_move s h (builds s.limits.page h) (pieces s.limits.page h) (reached s.limits.page h) page ≡ false)
-    (λ (page : Page). is_thin_now s h page ≡ true → s.limits.disk - disk s.limits.page h < reached_bytes s h page)
-    (files s.limits.page h)
-    (λ page stays thin. leb-false (reached_bytes s h page) (s.limits.disk - disk s.limits.page h) (second_false (is_thin_now s h page) (nat_le (reached_bytes s h page) (s.limits.disk - disk s.limits.page h)) stays thin))
-    (none_found (can_move s h (builds s.limits.page h) (pieces s.limits.page h) (reached s.limits.page h)) (files s.limits.page h) none)
+    (λ (page : Page). can_move s h (builds (page_limit s) h) (pieces (page_limit s) h) (reached (page_limit s) h) page ≡ false)
+    (λ (page : Page). is_thin_now s h page ≡ true → s.limits.disk - disk (page_limit s) h < reached_bytes s h page)
+    (files (page_limit s) h)
+    (λ page stays thin. leb-false (reached_bytes s h page) (s.limits.disk - disk (page_limit s) h)
+    (second_false (is_thin_now s h page) (nat_le (reached_bytes s h page) (s.limits.disk - disk (page_limit s) h)) stays thin))
+    (none_found (can_move s h (builds (page_limit s) h) (pieces (page_limit s) h) (reached (page_limit s) h)) (files (page_limit s) h) none)
 
 sum_twice : {X : Type 0} (f g : X → ℕ) (xs : List X) → AllByRecursion (λ (x : X). f x ≤ 2 * g x) xs → sum_by f xs ≤ 2 * sum_by g xs
 sum_twice f g [] all = omega arith
@@ -101,12 +102,14 @@ sum_twice f g (x ∷ xs) all =
 job_empty : (h : History) (list : List Piece) → in_flight h ≡ None → job_left_in h list ≡ []
 job_empty h list idle = rw idle refl
 
-pub at_most_twice : (s : Session) (h : History) → in_flight h ≡ None → AllByRecursion (λ (page : Page). is_thin_now s h page ≡ false) (files s.limits.page h)
-    → disk s.limits.page h ≤ 2 * sum_by (reached_bytes s h) (files s.limits.page h) + bytes_of (reserved_of h (builds s.limits.page h) (reached s.limits.page h))
+pub at_most_twice : (s : Session) (h : History) → in_flight h ≡ None → AllByRecursion (λ (page : Page). is_thin_now s h page ≡ false) (files (page_limit s) h)
+    → disk (page_limit s) h ≤ 2 * sum_by (reached_bytes s h) (files (page_limit s) h) + bytes_of
+    (reserved_of h (builds (page_limit s) h) (reached (page_limit s) h))
 at_most_twice s h idle thick =
-    let each : AllByRecursion (λ (page : Page). page_size (pieces s.limits.page h) page ≤ 2 * reached_bytes s h page) (files s.limits.page h) =
-    for_all (λ (page : Page). is_thin_now s h page ≡ false) (λ (page : Page). page_size (pieces s.limits.page h) page ≤ 2 * reached_bytes s h page) (files s.limits.page h)
-    (λ page fat. ltb-false (2 * reached_bytes s h page) (page_size (pieces s.limits.page h) page) fat) thick in
-    let written : sum_by (page_size (pieces s.limits.page h)) (files s.limits.page h) ≤ 2 * sum_by (reached_bytes s h) (files s.limits.page h) =
-    sum_twice (page_size (pieces s.limits.page h)) (reached_bytes s h) (files s.limits.page h) each in
-    rw (job_empty h (reached s.limits.page h) idle) (omega (arith, written))
+    let each : AllByRecursion (λ (page : Page). page_size (pieces (page_limit s) h) page ≤ 2 * reached_bytes s h page) (files (page_limit s) h) =
+    for_all (λ (page : Page). is_thin_now s h page ≡ false) (λ (page : Page). page_size (pieces (page_limit s) h) page ≤ 2 * reached_bytes s h page)
+    (files (page_limit s) h)
+    (λ page fat. ltb-false (2 * reached_bytes s h page) (page_size (pieces (page_limit s) h) page) fat) thick in
+    let written : sum_by (page_size (pieces (page_limit s) h)) (files (page_limit s) h) ≤ 2 * sum_by (reached_bytes s h) (files (page_limit s) h) =
+    sum_twice (page_size (pieces (page_limit s) h)) (reached_bytes s h) (files (page_limit s) h) each in
+    rw (job_empty h (reached (page_limit s) h) idle) (omega (arith, written))

@@ -33,29 +33,36 @@ live_plus page h g x (build ∷ earlier) later' later roots begun needs fresh su
     rooted : is_rooted page g build.name ≡ true → is_rooted page h build.name ≡ true
     rooted e =
         ⊎_elim (λ (root : is_rooted page h build.name ≡ true). root)
-        (λ (same : (build.name == x.name) ≡ true). absurd (false_true (sym (or_parts (build.name == x.name) (named x.name earlier) fresh).0 ∙ same))) (roots build.name e)
+        (λ (same : (build.name == x.name) ≡ true). absurd (false_true (sym (or_parts (build.name == x.name) (named x.name earlier) fresh).0 ∙ same)))
+        (roots build.name e)
 
     up : (is_rooted page g build.name || is_needed g later' build.name) ≡ true → (is_rooted page h build.name || is_needed h later build.name) ≡ true
     up e =
         ⊎_elim (λ (root : is_rooted page g build.name ≡ true). or_first (is_rooted page h build.name) (is_needed h later build.name) (rooted root))
         (λ (needed : is_needed g later' build.name ≡ true).
         ⊎_elim
-        (λ (by_x : (is_unfinished g x.name && has_source x build.name) ≡ true). or_first (is_rooted page h build.name) (is_needed h later build.name) (needs build.name (and_parts (is_unfinished g x.name) (has_source x build.name) by_x).0 (and_parts (is_unfinished g x.name) (has_source x build.name) by_x).1))
+        (λ (by_x : (is_unfinished g x.name && has_source x build.name) ≡ true). or_first (is_rooted page h build.name) (is_needed h later build.name)
+        (needs build.name (and_parts (is_unfinished g x.name) (has_source x build.name) by_x).0
+        (and_parts (is_unfinished g x.name) (has_source x build.name) by_x).1))
         (λ (by_later : list_any (λ (each : Build). is_unfinished g each.name && has_source each build.name) later ≡ true).
         or_second (is_rooted page h build.name) (is_needed h later build.name)
-        (any_up (λ (each : Build). is_unfinished g each.name && has_source each build.name) (λ (each : Build). is_unfinished h each.name && has_source each build.name) later
-        (λ each f. let parts = and_parts (is_unfinished g each.name) (has_source each build.name) f in both (is_unfinished h each.name) (has_source each build.name) (begun each.name parts.0) parts.1) by_later))
+        (any_up (λ (each : Build). is_unfinished g each.name && has_source each build.name)
+        (λ (each : Build). is_unfinished h each.name && has_source each build.name) later
+        (λ each f. let parts = and_parts (is_unfinished g each.name) (has_source each build.name) f in
+        both (is_unfinished h each.name) (has_source each build.name) (begun each.name parts.0) parts.1) by_later))
         (sub (λ (each : Build). is_unfinished g each.name && has_source each build.name) needed))
         (or_cases (is_rooted page g build.name) (is_needed g later' build.name) e)
 
     both_more : SubOr x (build ∷ later') (build ∷ later)
     both_more test e =
         ⊎_elim (λ (here : test build ≡ true). inr (or_first (test build) (list_any test later) here))
-        (λ (more : list_any test later' ≡ true). ⊎_elim (λ (at_x : test x ≡ true). inl at_x) (λ (old : list_any test later ≡ true). inr (or_second (test build) (list_any test later) old)) (sub test more))
+        (λ (more : list_any test later' ≡ true). ⊎_elim (λ (at_x : test x ≡ true). inl at_x)
+        (λ (old : list_any test later ≡ true). inr (or_second (test build) (list_any test later) old)) (sub test more))
         (or_cases (test build) (list_any test later') e)
 
     one_more : SubOr x later' (build ∷ later)
-    one_more test e = ⊎_elim (λ (at_x : test x ≡ true). inl at_x) (λ (old : list_any test later ≡ true). inr (or_second (test build) (list_any test later) old)) (sub test e)
+    one_more test e = ⊎_elim (λ (at_x : test x ≡ true). inl at_x) (λ (old : list_any test later ≡ true). inr (or_second (test build) (list_any test later) old))
+        (sub test e)
 
     go : (a b : Bool) → (a ≡ true → b ≡ true) → ((xs ys : List Build) → SubOr x xs ys → SubOr x (live_from page g earlier xs) (live_from page h earlier ys))
         → SubOr x (live_from page g earlier (cond a (build ∷ later') later')) (live_from page h earlier (cond b (build ∷ later) later))
@@ -65,15 +72,18 @@ live_plus page h g x (build ∷ earlier) later' later roots begun needs fresh su
     go false false f rest = rest later' later sub
 
 -- a rooted blob that passes a test is found among the live ones
-any_live : (page : ℕ) (h : History) (test : Build → Bool) (earlier later : List Build) → list_any test later ≡ true → list_any test (live_from page h earlier later) ≡ true
+any_live : (page : ℕ) (h : History) (test : Build → Bool) (earlier later : List Build) → list_any test later ≡ true
+    → list_any test (live_from page h earlier later) ≡ true
 any_live page h test [] later e = e
 any_live page h test (build ∷ earlier) later e = go (is_rooted page h build.name || is_needed h later build.name) (λ more. any_live page h test earlier more)
   where
-    go : (b : Bool) → ((more : List Build) → list_any test more ≡ true → list_any test (live_from page h earlier more) ≡ true) → list_any test (live_from page h earlier (cond b (build ∷ later) later)) ≡ true
+    go : (b : Bool) → ((more : List Build) → list_any test more ≡ true → list_any test (live_from page h earlier more) ≡ true)
+        → list_any test (live_from page h earlier (cond b (build ∷ later) later)) ≡ true
     go true rest = rest (build ∷ later) (or_second (test build) (list_any test later) e)
     go false rest = rest later e
 
-pub rooted_any : (page : ℕ) (h : History) (name : ℕ) (test : Build → Bool) (earlier later : List Build) → is_rooted page h name ≡ true → list_any (λ (build : Build). (build.name == name) && test build) earlier ≡ true
+pub rooted_any : (page : ℕ) (h : History) (name : ℕ) (test : Build → Bool) (earlier later : List Build) → is_rooted page h name ≡ true
+    → list_any (λ (build : Build). (build.name == name) && test build) earlier ≡ true
     → list_any test (live_from page h earlier later) ≡ true
 rooted_any page h name test [] later rooted e = absurd (false_true e)
 rooted_any page h name test (build ∷ earlier) later rooted e =
@@ -81,8 +91,10 @@ rooted_any page h name test (build ∷ earlier) later rooted e =
     (λ (here : ((build.name == name) && test build) ≡ true).
     let parts = and_parts (build.name == name) (test build) here in
     let same : build.name ≡ name = eqb-true build.name name parts.0 in
-    let root : (is_rooted page h build.name || is_needed h later build.name) ≡ true = or_first (is_rooted page h build.name) (is_needed h later build.name) (subst (λ (n : ℕ). is_rooted page h n ≡ true) (sym same) rooted) in
-    subst (λ (b : Bool). list_any test (live_from page h earlier (cond b (build ∷ later) later)) ≡ true) (sym root) (any_live page h test earlier (build ∷ later) (or_first (test build) (list_any test later) parts.1)))
+    let root : (is_rooted page h build.name || is_needed h later build.name) ≡ true = or_first (is_rooted page h build.name) (is_needed h later build.name)
+    (subst (λ (n : ℕ). is_rooted page h n ≡ true) (sym same) rooted) in
+    subst (λ (b : Bool). list_any test (live_from page h earlier (cond b (build ∷ later) later)) ≡ true) (sym root)
+    (any_live page h test earlier (build ∷ later) (or_first (test build) (list_any test later) parts.1)))
     (λ (more : list_any (λ (each : Build). (each.name == name) && test each) earlier ≡ true).
     rooted_any page h name test earlier (cond (is_rooted page h build.name || is_needed h later build.name) (build ∷ later) later) rooted more)
     (or_cases ((build.name == name) && test build) (list_any (λ (each : Build). (each.name == name) && test each) earlier) e)
@@ -108,7 +120,9 @@ any_taken : (test : Cell → Bool) (n : ℕ) (list : List Cell) → list_any tes
 any_taken test zero list e = absurd (false_true e)
 any_taken test (suc n) [] e = absurd (false_true e)
 any_taken test (suc n) (x ∷ list) e =
-    ⊎_elim (λ (here : test x ≡ true). or_first (test x) (list_any test list) here) (λ (more : list_any test (take n list) ≡ true). or_second (test x) (list_any test list) (any_taken test n list more)) (or_cases (test x) (list_any test (take n list)) e)
+    ⊎_elim (λ (here : test x ≡ true). or_first (test x) (list_any test list) here)
+    (λ (more : list_any test (take n list) ≡ true). or_second (test x) (list_any test list) (any_taken test n list more))
+    (or_cases (test x) (list_any test (take n list)) e)
 
 any_dropped : (test : Cell → Bool) (n : ℕ) (list : List Cell) → list_any test (drop n list) ≡ true → list_any test list ≡ true
 any_dropped test zero list e = e
@@ -117,26 +131,35 @@ any_dropped test (suc n) (x ∷ list) e = or_second (test x) (list_any test list
 
 -- a source whose cells the piece owns
 abbrev pub OwnsSource : List Build → Piece → List Part → Type 0
-OwnsSource list piece parts = (source : ℕ) × (list_any (λ (each : ℕ). each == source) (sources parts) ≡ true) × (list_any (owns piece) (cells_in list source) ≡ true)
+OwnsSource list piece parts = (source : ℕ) × (list_any (λ (each : ℕ). each == source) (sources parts) ≡ true)
+    × (list_any (owns piece) (cells_in list source) ≡ true)
 
-pub owns_source : (list : List Build) (name from : ℕ) (piece : Piece) (parts : List Part) → (name == piece.blob) ≡ false → list_any (owns piece) (cells_of list name from parts) ≡ true → OwnsSource list piece parts
+pub owns_source : (list : List Build) (name from : ℕ) (piece : Piece) (parts : List Part) → (name == piece.blob) ≡ false
+    → list_any (owns piece) (cells_of list name from parts) ≡ true → OwnsSource list piece parts
 owns_source list name from piece [] other e = absurd (false_true e)
 owns_source list name from piece (Embedded bytes ∷ parts) other e =
-    ⊎_elim (λ (own : list_any (owns piece) (own_cells name from (length bytes)) ≡ true). absurd (false_true (sym (not_own piece name from (length bytes) other) ∙ own)))
-    (λ (more : list_any (owns piece) (cells_of list name (from + length bytes) parts) ≡ true). owns_source list name (from + length bytes) piece parts other more)
+    ⊎_elim (λ (own : list_any (owns piece) (own_cells name from (length bytes)) ≡ true). absurd
+    (false_true (sym (not_own piece name from (length bytes) other) ∙ own)))
+    (λ (more : list_any (owns piece) (cells_of list name (from + length bytes) parts) ≡ true). owns_source list name (from + length bytes) piece parts other
+    more)
     (any_parts (owns piece) (own_cells name from (length bytes)) (cells_of list name (from + length bytes) parts) e)
 owns_source list name from piece (Asked len ∷ parts) other e =
     ⊎_elim (λ (own : list_any (owns piece) (own_cells name from len) ≡ true). absurd (false_true (sym (not_own piece name from len other) ∙ own)))
     (λ (more : list_any (owns piece) (cells_of list name (from + len) parts) ≡ true). owns_source list name (from + len) piece parts other more)
     (any_parts (owns piece) (own_cells name from len) (cells_of list name (from + len) parts) e)
 owns_source list name from piece (FileRange file off len stamp ∷ parts) other e =
-    ⊎_elim (λ (own : list_any (owns piece) (file_cells file stamp off len) ≡ true). absurd (false_true (sym (not_file piece file stamp (range_with_len off len)) ∙ own)))
+    ⊎_elim (λ (own : list_any (owns piece) (file_cells file stamp off len) ≡ true). absurd
+    (false_true (sym (not_file piece file stamp (range_with_len off len)) ∙ own)))
     (λ (more : list_any (owns piece) (cells_of list name from parts) ≡ true). owns_source list name from piece parts other more)
     (any_parts (owns piece) (file_cells file stamp off len) (cells_of list name from parts) e)
 owns_source list name from piece (BlobRange b off len ∷ parts) other e =
     ⊎_elim
-    (λ (own : list_any (owns piece) (take len (drop off (cells_in list b))) ≡ true).
-    (b, or_first (b == b) (list_any (λ (each : ℕ). each == b) (sources parts)) (eq-eqb b b refl), any_dropped (owns piece) off (cells_in list b) (any_taken (owns piece) len (drop off (cells_in list b)) own)))
+    (λ (own : list_any (owns piece) (take len (drop off (cells_in list b))) ≡ true). (
+      b,
+      or_first (b == b) (list_any (λ (each : ℕ). each == b) (sources parts)) (eq-eqb b b refl),
+      any_dropped (owns piece) off (cells_in list b)
+          (any_taken (owns piece) len (drop off (cells_in list b)) own),
+    ))
     (λ (more : list_any (owns piece) (cells_of list name from parts) ≡ true).
     let rest = owns_source list name from piece parts other more in
     (rest.0, or_second (b == rest.0) (list_any (λ (each : ℕ). each == rest.0) (sources parts)) rest.1, rest.2))
@@ -147,11 +170,14 @@ owns_source list name from piece (HandleRange k off len ∷ parts) other e =
     (any_parts (owns piece) (handle_cells k off len) (cells_of list name from parts) e)
 
 -- the blob of this name with those cells is in the list
-pub found_any : (list : List Build) (name : ℕ) (test : Build → Bool) (build : Build) → build_in list name ≡ Some build → test build ≡ true → list_any (λ (each : Build). (each.name == name) && test each) list ≡ true
+pub found_any : (list : List Build) (name : ℕ) (test : Build → Bool) (build : Build) → build_in list name ≡ Some build → test build ≡ true
+    → list_any (λ (each : Build). (each.name == name) && test each) list ≡ true
 found_any [] name test build e f = cc
 found_any (x ∷ list) name test build e f = go (x.name == name) refl e (λ rest. found_any list name test build rest f)
   where
-    go : (b : Bool) → (x.name == name) ≡ b → cond b (Some x) (build_in list name) ≡ Some build → (build_in list name ≡ Some build → list_any (λ (each : Build). (each.name == name) && test each) list ≡ true)
+    go : (b : Bool) → (x.name == name) ≡ b → cond b (Some x) (build_in list name) ≡ Some build
+        → (build_in list name ≡ Some build → list_any (λ (each : Build). (each.name == name) && test each) list ≡ true)
         → ((b && test x) || list_any (λ (each : Build). (each.name == name) && test each) list) ≡ true
-    go true at g rest = let same : x ≡ build = cc in or_first (test x) (list_any (λ (each : Build). (each.name == name) && test each) list) (subst (λ (y : Build). test y ≡ true) (sym same) f)
+    go true at g rest = let same : x ≡ build = cc in or_first (test x) (list_any (λ (each : Build). (each.name == name) && test each) list)
+        (subst (λ (y : Build). test y ≡ true) (sym same) f)
     go false at g rest = rest g

@@ -15,7 +15,7 @@ use Rattle.session_script.specs.declared.event.Event.{Event}
 use Rattle.session_script.specs.declared.event.Event.TheVariants as events
 use Rattle.answer_text.specs.declared.answer.Answer.{Answer}
 use Rattle.answer_text.specs.declared.answer.Answer.TheVariants as answers
-use Rattle.blob_model.specs.Session.{Session}
+use Rattle.blob_model.specs.Session.{Session, page_limit}
 use Rattle.blob_model.specs.History.{History, heard, said, heard_first, said_all, after}
 use Rattle.blob_model.specs.Builds.{Cell, sent, filed, lent}
 use Rattle.blob_model.specs.Standing.{ended, is_broken_status}
@@ -77,28 +77,34 @@ place_plain reader reserved = tt
 
 piece_plain : (s : Session) (h : History) (reader : ReaderId) (piece : Option Piece) → EachPlain (sent_fault s h reader piece)
 piece_plain s h reader None = tt
-piece_plain s h reader (Some piece) = place_plain reader (place s.limits.page h piece)
+piece_plain s h reader (Some piece) = place_plain reader (place (page_limit s) h piece)
 
 cell_plain : (s : Session) (h : History) (reader : ReaderId) (cell : Cell) → EachPlain (cell_fault s h reader cell)
-cell_plain s h reader (sent blob index) = piece_plain s h reader (piece_with (pieces s.limits.page h) (sent blob index))
+cell_plain s h reader (sent blob index) = piece_plain s h reader (piece_with (pieces (page_limit s) h) (sent blob index))
 cell_plain s h reader (filed name stamp index) = tt
 cell_plain s h reader (lent slot index) = ((refl, tt), tt)
 
 read_plain : (s : Session) (h : History) (reader : ReaderId) (cells : List Cell) → EachPlain (read_faults s h reader cells)
 read_plain s h reader [] = tt
-read_plain s h reader (cell ∷ cells) = plain_append (cell_fault s h reader cell) (read_faults s h reader cells) (cell_plain s h reader cell) (read_plain s h reader cells)
+read_plain s h reader (cell ∷ cells) = plain_append (cell_fault s h reader cell) (read_faults s h reader cells) (cell_plain s h reader cell)
+    (read_plain s h reader cells)
 
-chunk_plain : (s : Session) (h : History) (reader : ReaderId) (cells : List Cell) (first : Option Cell) (own : List Answer) → IsRead s h reader cells first own → AllPlain own
+chunk_plain : (s : Session) (h : History) (reader : ReaderId) (cells : List Cell) (first : Option Cell) (own : List Answer) → IsRead s h reader cells first own
+    → AllPlain own
 chunk_plain s h reader cells None own (inl given) = subst AllPlain (sym given.1) (refl, tt)
 chunk_plain s h reader cells None own (inr fault) = plain_one own (read_faults s h reader cells) (read_plain s h reader cells) fault
 chunk_plain s h reader cells (Some cell) own one =
-    plain_one own ((answers.FileChanged reader (file_of cell) ∷ []) ∷ read_faults s h reader (before_failing h cells)) ((refl, tt), read_plain s h reader (before_failing h cells)) one
+    plain_one own ((answers.FileChanged reader (file_of cell) ∷ []) ∷ read_faults s h reader (before_failing h cells))
+    ((refl, tt), read_plain s h reader (before_failing h cells)) one
 
-next_plain : (s : Session) (h : History) (reader : ReaderId) (open_reader : OpenReader) (more : ℕ) (own : List Answer) → IsNext s h reader open_reader more own → AllPlain own
+next_plain : (s : Session) (h : History) (reader : ReaderId) (open_reader : OpenReader) (more : ℕ) (own : List Answer) → IsNext s h reader open_reader more own
+    → AllPlain own
 next_plain s h reader open_reader zero own e = subst AllPlain (sym e) (refl, tt)
-next_plain s h reader open_reader (suc more) own one = chunk_plain s h reader (chunk s.limits h open_reader) (first_failing h (chunk s.limits h open_reader)) own one
+next_plain s h reader open_reader (suc more) own one = chunk_plain s h reader (chunk s.limits h open_reader) (first_failing h (chunk s.limits h open_reader))
+    own one
 
-step_plain : (s : Session) (h : History) (reader : ReaderId) (open_reader : OpenReader) (status : Option Status) (own : List Answer) → IsStepBy s h reader open_reader status own → AllPlain own
+step_plain : (s : Session) (h : History) (reader : ReaderId) (open_reader : OpenReader) (status : Option Status) (own : List Answer)
+    → IsStepBy s h reader open_reader status own → AllPlain own
 step_plain s h reader open_reader None own e = subst AllPlain (sym e) (refl, tt)
 step_plain s h reader open_reader (Some statuses.Done) own one = next_plain s h reader open_reader (left open_reader) own one
 step_plain s h reader open_reader (Some status) own e = subst AllPlain (sym e) (refl, tt)
@@ -114,11 +120,14 @@ revoke_plain false = refl
 pub line_plain : (s : Session) (h : History) (event : Event) (own : List Answer) → is_build event ≡ false → IsAccepted s h event own → AllPlain own
 line_plain s h (events.Build renderer name kind parts) own other one = absurd (false_true (sym other))
 line_plain s h (events.Slice renderer name source from to kind) own other one = absurd (false_true (sym other))
-line_plain s h (events.Step reader) own other one = found_plain s h reader (reader_at s.limits.page h reader.0) own one
+line_plain s h (events.Step reader) own other one = found_plain s h reader (reader_at (page_limit s) h reader.0) own one
 line_plain s h (events.Segment renderer b segment bytes) own other one =
-    plain_one own (accepted s h (events.Segment renderer b segment bytes) ∷ failing s h (events.Segment renderer b segment bytes)) ((refl, stored_plain s h b segment (plan_in s h b)), unstored_plain s h segment (plan_in s h b)) one
-line_plain s h (events.Disk job) own other one = plain_one own (accepted s h (events.Disk job) ∷ failing s h (events.Disk job)) (job_plain h job (source_of (in_flight h)) (job_left s.limits.page h)) one
-line_plain s h (events.Revoke renderer text) own other one = plain_one own (accepted s h (events.Revoke renderer text) ∷ []) ((revoke_plain (owns_entry h renderer.0 text), tt), tt) one
+    plain_one own (accepted s h (events.Segment renderer b segment bytes) ∷ failing s h (events.Segment renderer b segment bytes))
+    ((refl, stored_plain s h b segment (plan_in s h b)), unstored_plain s h segment (plan_in s h b)) one
+line_plain s h (events.Disk job) own other one = plain_one own (accepted s h (events.Disk job) ∷ failing s h (events.Disk job))
+    (job_plain h job (source_of (in_flight h)) (job_left (page_limit s) h)) one
+line_plain s h (events.Revoke renderer text) own other one = plain_one own (accepted s h (events.Revoke renderer text) ∷ [])
+    ((revoke_plain (owns_entry h renderer.0 text), tt), tt) one
 line_plain s h event own other one = plain_one own (accepted s h event ∷ failing s h event) ((refl, tt), tt) one
 
 -- ---- plain answers keep memory
@@ -143,34 +152,42 @@ plain_said page h answer plain =
       blobs = refl;
       roots = λ name e. e;
       begun = λ name e. unfinished_said h answer name e;
-      broken = λ name e. ap (λ (o : Option Status). option_map_or is_broken_status o false) ((change_laws.ends name).by_answer h answer (not_true (is_ending answer) parts.0)) ∙ e;
+      broken = λ name e. ap (λ (o : Option Status). option_map_or is_broken_status o false)
+          ((change_laws.ends name).by_answer h answer (not_true (is_ending answer) parts.0)) ∙ e;
       granted = λ name e. sym ((change_laws.grants name).by_answer h answer (not_true (is_grant answer) parts.1)) ∙ e;
       unlisted = λ number e. unlisted_after answer (pages h) number e;
     }
 
-pub plain_heard : (s : Session) (h : History) (event : Event) (answer : Answer) → HoldersSpawned h → refusal s h event ≡ None → is_build event ≡ false → is_plain answer ≡ true → Shrinks s.limits.page h (heard h event answer)
+pub plain_heard : (s : Session) (h : History) (event : Event) (answer : Answer) → HoldersSpawned h → refusal s h event ≡ None → is_build event ≡ false
+    → is_plain answer ≡ true → Shrinks (page_limit s) h (heard h event answer)
 plain_heard s h event answer holders accepted other plain =
     let parts = and_parts (not (is_ending answer)) (not (is_grant answer)) plain in
     record {
-      blobs = (change_laws.blobs s.limits.page).by_line h event answer other;
+      blobs = (change_laws.blobs (page_limit s)).by_line h event answer other;
       roots = λ name e. rooted_before s h event answer name holders accepted other e;
       begun = λ name e. unfinished_heard h event answer name e;
-      broken = λ name e. ap (λ (o : Option Status). option_map_or is_broken_status o false) ((change_laws.ends name).by_line h event answer (not_true (is_ending answer) parts.0)) ∙ e;
+      broken = λ name e. ap (λ (o : Option Status). option_map_or is_broken_status o false)
+          ((change_laws.ends name).by_line h event answer (not_true (is_ending answer) parts.0)) ∙ e;
       granted = λ name e. sym ((change_laws.grants name).by_line h event answer (not_true (is_grant answer) parts.1)) ∙ e;
       unlisted = λ number e. unlisted_after answer (pages h) number e;
     }
 
-plain_all : (s : Session) (h : History) (list : List Answer) → AllPlain list → memory s.limits.page h ≤ s.limits.memory → memory s.limits.page (said_all h list) ≤ s.limits.memory
+plain_all : (s : Session) (h : History) (list : List Answer) → AllPlain list → memory (page_limit s) h ≤ s.limits.memory
+    → memory (page_limit s) (said_all h list) ≤ s.limits.memory
 plain_all s h [] all fits = fits
 plain_all s h (answer ∷ list) all fits =
-    let less = memory_shrinks s.limits.page h (said h answer) (plain_said s.limits.page h answer all.0) in
+    let less = memory_shrinks (page_limit s) h (said h answer) (plain_said (page_limit s) h answer all.0) in
     plain_all s (said h answer) list all.1 (omega (arith, less, fits))
 
-plain_first : (s : Session) (h : History) (event : Event) (answer : Answer) → HoldersSpawned h → refusal s h event ≡ None → is_build event ≡ false → is_plain answer ≡ true → memory s.limits.page h ≤ s.limits.memory
-    → memory s.limits.page (heard_first h event answer) ≤ s.limits.memory
+plain_first : (s : Session) (h : History) (event : Event) (answer : Answer) → HoldersSpawned h → refusal s h event ≡ None → is_build event ≡ false
+    → is_plain answer ≡ true → memory (page_limit s) h ≤ s.limits.memory
+    → memory (page_limit s) (heard_first h event answer) ≤ s.limits.memory
 plain_first s h event (answers.Refused why) holders accepted other plain fits = let same = memory_over s h event why in omega (arith, same, fits)
-plain_first s h event answer holders accepted other plain fits = let less = memory_shrinks s.limits.page h (heard h event answer) (plain_heard s h event answer holders accepted other plain) in omega (arith, less, fits)
+plain_first s h event answer holders accepted other plain fits =
+    let less = memory_shrinks (page_limit s) h (heard h event answer) (plain_heard s h event answer holders accepted other plain) in omega (arith, less, fits)
 
-pub plain_line : (s : Session) (h : History) (event : Event) (own : List Answer) → HoldersSpawned h → refusal s h event ≡ None → is_build event ≡ false → AllPlain own → memory s.limits.page h ≤ s.limits.memory → memory s.limits.page (after h event own) ≤ s.limits.memory
+pub plain_line : (s : Session) (h : History) (event : Event) (own : List Answer) → HoldersSpawned h → refusal s h event ≡ None → is_build event ≡ false
+    → AllPlain own → memory (page_limit s) h ≤ s.limits.memory → memory (page_limit s) (after h event own) ≤ s.limits.memory
 plain_line s h event [] holders accepted other all fits = fits
-plain_line s h event (answer ∷ more) holders accepted other all fits = plain_all s (heard_first h event answer) more all.1 (plain_first s h event answer holders accepted other all.0 fits)
+plain_line s h event (answer ∷ more) holders accepted other all fits = plain_all s (heard_first h event answer) more all.1
+    (plain_first s h event answer holders accepted other all.0 fits)

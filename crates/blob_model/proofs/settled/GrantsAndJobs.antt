@@ -5,7 +5,7 @@ use Rattle.std.specs.Option.{option_map, option_to_list}
 use Rattle.std.proofs.lemmas.Bool.{or_parts, eqb-true, eq-eqb}
 use Rattle.answer_text.specs.declared.answer.Answer.{Answer}
 use Rattle.answer_text.specs.declared.answer.Answer.TheVariants as answers
-use Rattle.blob_model.specs.Session.{Session}
+use Rattle.blob_model.specs.Session.{Session, page_limit}
 use Rattle.blob_model.specs.History.{History, said, said_all}
 use Rattle.blob_model.specs.Parts.{own_bytes}
 use Rattle.blob_model.specs.Builds.{Build, builds}
@@ -41,7 +41,8 @@ filter_both p q [] = refl
 filter_both p q (x ∷ list) = go (p x) (q x) refl (filter_both p q list)
   where
     go : (a b : Bool) → p x ≡ a → filter (λ (y : Build). p y && q y) list ≡ filter p (filter q list)
-        → cond (a && b) (x ∷ filter (λ (y : Build). p y && q y) list) (filter (λ (y : Build). p y && q y) list) ≡ filter p (cond b (x ∷ filter q list) (filter q list))
+        → cond (a && b) (x ∷ filter (λ (y : Build). p y && q y) list) (filter (λ (y : Build). p y && q y) list)
+        ≡ filter p (cond b (x ∷ filter q list) (filter q list))
     go true true e rest = ap (λ xs. x ∷ xs) rest ∙ (λ i. cond (sym e i) (x ∷ filter p (filter q list)) (filter p (filter q list)))
     go true false e rest = rest
     go false true e rest = rest ∙ (λ i. cond (sym e i) (x ∷ filter p (filter q list)) (filter p (filter q list)))
@@ -52,66 +53,84 @@ filter_others name [] e = refl
 filter_others name (x ∷ list) e =
     let parts = or_parts (x.name == name) (named name list) e in
     let other : (name == x.name) ≡ false = eqb_turned name x.name ∙ parts.0 in
-    (λ i. cond (not (other i)) (x ∷ filter (λ (y : Build). not (name == y.name)) list) (filter (λ (y : Build). not (name == y.name)) list)) ∙ ap (λ xs. x ∷ xs) (filter_others name list parts.1)
+    (λ i. cond (not (other i)) (x ∷ filter (λ (y : Build). not (name == y.name)) list) (filter (λ (y : Build). not (name == y.name)) list)) ∙ ap (λ xs. x ∷ xs)
+    (filter_others name list parts.1)
 
 -- after the head is granted the others wait
-pub waits_next : (page : ℕ) (h : History) (build : Build) (more : List Build) → Distinct (builds page h) → waits page h ≡ build ∷ more → waits page (said h (answers.Granted build.name)) ≡ more
+pub waits_next : (page : ℕ) (h : History) (build : Build) (more : List Build) → Distinct (builds page h) → waits page h ≡ build ∷ more
+    → waits page (said h (answers.Granted build.name)) ≡ more
 waits_next page h build more distinct e =
     let d : Distinct (build ∷ more) = subst Distinct e (distinct_filter (is_waiting h) (builds page h) distinct) in
     filter_same (is_waiting (said h (answers.Granted build.name))) (λ (x : Build). not (build.name == x.name) && is_waiting h x) (builds page h)
     (λ x. waits_but (is_unfinished h x.name) (is_shared x.plan) (build.name == x.name) (was_granted h x.name))
     ∙ filter_both (λ (x : Build). not (build.name == x.name)) (is_waiting h) (builds page h)
     ∙ ap (λ (xs : List Build). filter (λ (x : Build). not (build.name == x.name)) xs) e
-    ∙ (λ i. cond (not (eq-eqb build.name build.name refl i)) (build ∷ filter (λ (x : Build). not (build.name == x.name)) more) (filter (λ (x : Build). not (build.name == x.name)) more))
+    ∙ (λ i. cond (not (eq-eqb build.name build.name refl i)) (build ∷ filter (λ (x : Build). not (build.name == x.name)) more)
+    (filter (λ (x : Build). not (build.name == x.name)) more))
     ∙ filter_others build.name more d.0
 
-pub grants_done : (s : Session) (h : History) (list : List Build) → Distinct (builds s.limits.page h) → waits s.limits.page h ≡ list → grants s (said_all h (grants_of s h list)) ≡ []
+pub grants_done : (s : Session) (h : History) (list : List Build) → Distinct (builds (page_limit s) h) → waits (page_limit s) h ≡ list
+    → grants s (said_all h (grants_of s h list)) ≡ []
 grants_done s h [] distinct e = ap (λ (xs : List Build). grants_of s h xs) e
 grants_done s h (build ∷ more) distinct e =
-    go (nat_le (memory s.limits.page h + own_bytes build.parts) s.limits.memory) refl
-    (grants_done s (said h (answers.Granted build.name)) more distinct (waits_next s.limits.page h build more distinct e))
+    go (nat_le (memory (page_limit s) h + own_bytes build.parts) s.limits.memory) refl
+    (grants_done s (said h (answers.Granted build.name)) more distinct (waits_next (page_limit s) h build more distinct e))
   where
-    go : (b : Bool) → nat_le (memory s.limits.page h + own_bytes build.parts) s.limits.memory ≡ b → grants s (said_all (said h (answers.Granted build.name)) (grants_of s (said h (answers.Granted build.name)) more)) ≡ []
+    go : (b : Bool) → nat_le (memory (page_limit s) h + own_bytes build.parts) s.limits.memory ≡ b
+        → grants s (said_all (said h (answers.Granted build.name)) (grants_of s (said h (answers.Granted build.name)) more)) ≡ []
         → grants s (said_all h (if b then answers.Granted build.name ∷ grants_of s (said h (answers.Granted build.name)) more else [])) ≡ []
     go true at rest = rest
-    go false at rest = ap (λ (xs : List Build). grants_of s h xs) e ∙ (λ i. if at i then answers.Granted build.name ∷ grants_of s (said h (answers.Granted build.name)) more else [])
+    go false at rest = ap (λ (xs : List Build). grants_of s h xs) e ∙
+        (λ i. if at i then answers.Granted build.name ∷ grants_of s (said h (answers.Granted build.name)) more else [])
 
 -- nothing is granted later either, while nothing but jobs came
-pub head_waits : (s : Session) (h g : History) (list : List Build) → memory s.limits.page g ≡ memory s.limits.page h → grants_of s h list ≡ [] → grants_of s g list ≡ []
+pub head_waits : (s : Session) (h g : History) (list : List Build) → memory (page_limit s) g ≡ memory (page_limit s) h → grants_of s h list ≡ []
+    → grants_of s g list ≡ []
 head_waits s h g [] same e = refl
-head_waits s h g (build ∷ more) same e = go (nat_le (memory s.limits.page h + own_bytes build.parts) s.limits.memory) refl e
+head_waits s h g (build ∷ more) same e = go (nat_le (memory (page_limit s) h + own_bytes build.parts) s.limits.memory) refl e
   where
-    go : (b : Bool) → nat_le (memory s.limits.page h + own_bytes build.parts) s.limits.memory ≡ b → (if b then answers.Granted build.name ∷ grants_of s (said h (answers.Granted build.name)) more else []) ≡ []
-        → (if nat_le (memory s.limits.page g + own_bytes build.parts) s.limits.memory then answers.Granted build.name ∷ grants_of s (said g (answers.Granted build.name)) more else []) ≡ []
+    go : (b : Bool) → nat_le (memory (page_limit s) h + own_bytes build.parts) s.limits.memory ≡ b
+        → (if b then answers.Granted build.name ∷ grants_of s (said h (answers.Granted build.name)) more else []) ≡ []
+        → (if nat_le (memory (page_limit s) g + own_bytes build.parts) s.limits.memory then answers.Granted build.name
+        ∷ grants_of s (said g (answers.Granted build.name)) more else []) ≡ []
     go true at f = cc
     go false at f =
-        (λ i. if nat_le (same i + own_bytes build.parts) s.limits.memory then answers.Granted build.name ∷ grants_of s (said g (answers.Granted build.name)) more else [])
+        (λ i. if nat_le (same i + own_bytes build.parts) s.limits.memory then answers.Granted build.name ∷ grants_of s (said g (answers.Granted build.name))
+        more else [])
         ∙ (λ i. if at i then answers.Granted build.name ∷ grants_of s (said g (answers.Granted build.name)) more else [])
 
 pub grants_still : (s : Session) (h : History) (list : List Answer) → AllStill list → grants s h ≡ [] → grants s (said_all h list) ≡ []
 grants_still s h list all e =
-    ap (λ (xs : List Build). grants_of s (said_all h list) xs) (waits_still s.limits.page h list all)
-    ∙ head_waits s h (said_all h list) (waits s.limits.page h) (memory_still s.limits.page h list all) e
+    ap (λ (xs : List Build). grants_of s (said_all h list) xs) (waits_still (page_limit s) h list all)
+    ∙ head_waits s h (said_all h list) (waits (page_limit s) h) (memory_still (page_limit s) h list all) e
 
 pub grants_late : (s : Session) (h : History) (list : List Build) → AllLate (grants_of s h list)
 grants_late s h [] = tt
-grants_late s h (build ∷ more) = go (nat_le (memory s.limits.page h + own_bytes build.parts) s.limits.memory) (grants_late s (said h (answers.Granted build.name)) more)
+grants_late s h (build ∷ more) = go (nat_le (memory (page_limit s) h + own_bytes build.parts) s.limits.memory)
+    (grants_late s (said h (answers.Granted build.name)) more)
   where
-    go : (b : Bool) → AllLate (grants_of s (said h (answers.Granted build.name)) more) → AllLate (if b then answers.Granted build.name ∷ grants_of s (said h (answers.Granted build.name)) more else [])
+    go : (b : Bool) → AllLate (grants_of s (said h (answers.Granted build.name)) more)
+        → AllLate (if b then answers.Granted build.name ∷ grants_of s (said h (answers.Granted build.name)) more else [])
     go true rest = (refl, rest)
     go false rest = tt
 
 -- who was granted waited
-pub granted_waited : (s : Session) (h : History) (list : List Build) (name : ℕ) → was_granted (said_all h (grants_of s h list)) name ≡ true → (was_granted h name ≡ true) ⊎ (named name list ≡ true)
+pub granted_waited : (s : Session) (h : History) (list : List Build) (name : ℕ) → was_granted (said_all h (grants_of s h list)) name ≡ true
+    → (was_granted h name ≡ true) ⊎ (named name list ≡ true)
 granted_waited s h [] name e = inl e
-granted_waited s h (build ∷ more) name e = go (nat_le (memory s.limits.page h + own_bytes build.parts) s.limits.memory) (granted_waited s (said h (answers.Granted build.name)) more name) e
+granted_waited s h (build ∷ more) name e = go (nat_le (memory (page_limit s) h + own_bytes build.parts) s.limits.memory)
+    (granted_waited s (said h (answers.Granted build.name)) more name) e
   where
-    next : (was_granted (said h (answers.Granted build.name)) name ≡ true) ⊎ (named name more ≡ true) → (was_granted h name ≡ true) ⊎ (named name (build ∷ more) ≡ true)
-    next (inl was) = ⊎_elim (λ (here : (build.name == name) ≡ true). inr (or_first (build.name == name) (named name more) here)) (λ (before : was_granted h name ≡ true). inl before) (or_cases (build.name == name) (was_granted h name) was)
+    next : (was_granted (said h (answers.Granted build.name)) name ≡ true) ⊎ (named name more ≡ true) → (was_granted h name ≡ true)
+        ⊎ (named name (build ∷ more) ≡ true)
+    next (inl was) = ⊎_elim (λ (here : (build.name == name) ≡ true). inr (or_first (build.name == name) (named name more) here))
+        (λ (before : was_granted h name ≡ true). inl before) (or_cases (build.name == name) (was_granted h name) was)
     next (inr later) = inr (or_second (build.name == name) (named name more) later)
 
-    go : (b : Bool) → (was_granted (said_all (said h (answers.Granted build.name)) (grants_of s (said h (answers.Granted build.name)) more)) name ≡ true → (was_granted (said h (answers.Granted build.name)) name ≡ true) ⊎ (named name more ≡ true))
-        → was_granted (said_all h (if b then answers.Granted build.name ∷ grants_of s (said h (answers.Granted build.name)) more else [])) name ≡ true → (was_granted h name ≡ true) ⊎ (named name (build ∷ more) ≡ true)
+    go : (b : Bool) → (was_granted (said_all (said h (answers.Granted build.name)) (grants_of s (said h (answers.Granted build.name)) more)) name ≡ true
+        → (was_granted (said h (answers.Granted build.name)) name ≡ true) ⊎ (named name more ≡ true))
+        → was_granted (said_all h (if b then answers.Granted build.name ∷ grants_of s (said h (answers.Granted build.name)) more else [])) name ≡ true
+        → (was_granted h name ≡ true) ⊎ (named name (build ∷ more) ≡ true)
     go true rest f = next (rest f)
     go false rest f = inl f
 
@@ -122,7 +141,7 @@ page_job_still h [] = tt
 page_job_still h (number ∷ numbers) = (refl, tt)
 
 pub page_jobs_still : (s : Session) (h : History) → AllStill (page_jobs s h)
-page_jobs_still s h = go (may_start h && nat_lt 0 (length (waits s.limits.page h))) (page_job_still h (chosen s.limits h))
+page_jobs_still s h = go (may_start h && nat_lt 0 (length (waits (page_limit s) h))) (page_job_still h (chosen s.limits h))
   where
     go : (b : Bool) → AllStill (page_job_of h (chosen s.limits h)) → AllStill (if b then page_job_of h (chosen s.limits h) else [])
     go true all = all
@@ -147,7 +166,7 @@ cannot_start h e = go (paging h)
 pub jobs_none : (s : Session) (h : History) → is_none (in_flight h) ≡ false → (page_jobs s h ≡ []) × (compactions s h ≡ [])
 jobs_none s h e =
     let no_start = cannot_start h e in (
-      (λ i. if no_start i && nat_lt 0 (length (waits s.limits.page h)) then page_job_of h (chosen s.limits h) else []),
+      (λ i. if no_start i && nat_lt 0 (length (waits (page_limit s) h)) then page_job_of h (chosen s.limits h) else []),
       (λ i. if no_start i then option_to_list (option_map (compaction s h) (movable s h)) else []),
     )
 
@@ -156,37 +175,45 @@ page_job_flies h [] = inl refl
 page_job_flies h (number ∷ numbers) = inr refl
 
 pub page_jobs_fly : (s : Session) (h : History) → (page_jobs s h ≡ []) ⊎ (is_none (in_flight (said_all h (page_jobs s h))) ≡ false)
-page_jobs_fly s h = go (may_start h && nat_lt 0 (length (waits s.limits.page h))) (page_job_flies h (chosen s.limits h))
+page_jobs_fly s h = go (may_start h && nat_lt 0 (length (waits (page_limit s) h))) (page_job_flies h (chosen s.limits h))
   where
     go : (b : Bool) → (page_job_of h (chosen s.limits h) ≡ []) ⊎ (is_none (in_flight (said_all h (page_job_of h (chosen s.limits h)))) ≡ false)
-        → ((if b then page_job_of h (chosen s.limits h) else []) ≡ []) ⊎ (is_none (in_flight (said_all h (if b then page_job_of h (chosen s.limits h) else []))) ≡ false)
+        → ((if b then page_job_of h (chosen s.limits h) else []) ≡ [])
+        ⊎ (is_none (in_flight (said_all h (if b then page_job_of h (chosen s.limits h) else []))) ≡ false)
     go true one = one
     go false one = inl refl
 
 pub compactions_fly : (s : Session) (h : History) → (compactions s h ≡ []) ⊎ (is_none (in_flight (said_all h (compactions s h))) ≡ false)
 compactions_fly s h = go (may_start h) (movable s h)
   where
-    go : (b : Bool) (found : Option Page) → ((if b then option_to_list (option_map (compaction s h) found) else []) ≡ []) ⊎ (is_none (in_flight (said_all h (if b then option_to_list (option_map (compaction s h) found) else []))) ≡ false)
+    go : (b : Bool) (found : Option Page) → ((if b then option_to_list (option_map (compaction s h) found) else []) ≡ [])
+        ⊎ (is_none (in_flight (said_all h (if b then option_to_list (option_map (compaction s h) found) else []))) ≡ false)
     go false found = inl refl
     go true None = inl refl
     go true (Some page) = inr refl
 
 -- after both steps no job is owed
 pub jobs_done : (s : Session) (h : History)
-    → (page_jobs s (said_all (said_all h (page_jobs s h)) (compactions s (said_all h (page_jobs s h)))) ≡ []) × (compactions s (said_all (said_all h (page_jobs s h)) (compactions s (said_all h (page_jobs s h)))) ≡ [])
+    → (page_jobs s (said_all (said_all h (page_jobs s h)) (compactions s (said_all h (page_jobs s h)))) ≡ [])
+    × (compactions s (said_all (said_all h (page_jobs s h)) (compactions s (said_all h (page_jobs s h)))) ≡ [])
 jobs_done s h = ⊎_elim idle started (page_jobs_fly s h)
   where
     started : is_none (in_flight (said_all h (page_jobs s h))) ≡ false
-        → (page_jobs s (said_all (said_all h (page_jobs s h)) (compactions s (said_all h (page_jobs s h)))) ≡ []) × (compactions s (said_all (said_all h (page_jobs s h)) (compactions s (said_all h (page_jobs s h)))) ≡ [])
+        → (page_jobs s (said_all (said_all h (page_jobs s h)) (compactions s (said_all h (page_jobs s h)))) ≡ [])
+        × (compactions s (said_all (said_all h (page_jobs s h)) (compactions s (said_all h (page_jobs s h)))) ≡ [])
     started flies =
         let none = jobs_none s (said_all h (page_jobs s h)) flies in
-        subst (λ (xs : List Answer). (page_jobs s (said_all (said_all h (page_jobs s h)) xs) ≡ []) × (compactions s (said_all (said_all h (page_jobs s h)) xs) ≡ [])) (sym none.1) none
+        subst (λ (xs : List Answer). (page_jobs s (said_all (said_all h (page_jobs s h)) xs) ≡ [])
+        × (compactions s (said_all (said_all h (page_jobs s h)) xs) ≡ [])) (sym none.1) none
 
     idle : page_jobs s h ≡ []
-        → (page_jobs s (said_all (said_all h (page_jobs s h)) (compactions s (said_all h (page_jobs s h)))) ≡ []) × (compactions s (said_all (said_all h (page_jobs s h)) (compactions s (said_all h (page_jobs s h)))) ≡ [])
+        → (page_jobs s (said_all (said_all h (page_jobs s h)) (compactions s (said_all h (page_jobs s h)))) ≡ [])
+        × (compactions s (said_all (said_all h (page_jobs s h)) (compactions s (said_all h (page_jobs s h)))) ≡ [])
     idle none =
-        subst (λ (xs : List Answer). (page_jobs s (said_all (said_all h xs) (compactions s (said_all h xs))) ≡ []) × (compactions s (said_all (said_all h xs) (compactions s (said_all h xs))) ≡ [])) (sym none)
+        subst (λ (xs : List Answer). (page_jobs s (said_all (said_all h xs) (compactions s (said_all h xs))) ≡ [])
+        × (compactions s (said_all (said_all h xs) (compactions s (said_all h xs))) ≡ [])) (sym none)
         (⊎_elim
-        (λ (e : compactions s h ≡ []). subst (λ (xs : List Answer). (page_jobs s (said_all h xs) ≡ []) × (compactions s (said_all h xs) ≡ [])) (sym e) (none, e))
+        (λ (e : compactions s h ≡ []). subst (λ (xs : List Answer). (page_jobs s (said_all h xs) ≡ []) × (compactions s (said_all h xs) ≡ [])) (sym e)
+        (none, e))
         (λ (flies : is_none (in_flight (said_all h (compactions s h))) ≡ false). jobs_none s (said_all h (compactions s h)) flies)
         (compactions_fly s h))

@@ -12,7 +12,7 @@ use Rattle.answer_text.specs.declared.answer.Answer.{Answer}
 use Rattle.answer_text.specs.declared.answer.Answer.TheVariants as answers
 use Rattle.answer_text.specs.declared.refusal.Refusal.{Refusal}
 use Rattle.answer_text.specs.declared.group.Group.{Group}
-use Rattle.blob_model.specs.Session.{Session}
+use Rattle.blob_model.specs.Session.{Session, page_limit}
 use Rattle.blob_model.specs.History.{History, start, heard_first, said_all, after, history_from}
 use Rattle.blob_model.specs.Builds.{Cell, sent, filed, lent}
 use Rattle.blob_model.specs.Standing.{ended}
@@ -61,7 +61,7 @@ job_first h job (Some file) (number ∷ numbers) = ((_, _, refl), ((_, _, refl),
 
 failing_first : (s : Session) (h : History) (event : Event) → AllFirst (failing s h event)
 failing_first s h (events.Segment renderer b segment bytes) = unstored_first s h segment (plan_in s h b)
-failing_first s h (events.Disk job) = job_first h job (source_of (in_flight h)) (job_left s.limits.page h)
+failing_first s h (events.Disk job) = job_first h job (source_of (in_flight h)) (job_left (page_limit s) h)
 failing_first s h event = tt
 
 accepted_first : (s : Session) (h : History) (event : Event) → HasFirst (accepted s h event)
@@ -84,28 +84,34 @@ place_first reader reserved = tt
 
 piece_first : (s : Session) (h : History) (reader : ReaderId) (piece : Option Piece) → AllFirst (sent_fault s h reader piece)
 piece_first s h reader None = tt
-piece_first s h reader (Some piece) = place_first reader (place s.limits.page h piece)
+piece_first s h reader (Some piece) = place_first reader (place (page_limit s) h piece)
 
 cell_first : (s : Session) (h : History) (reader : ReaderId) (cell : Cell) → AllFirst (cell_fault s h reader cell)
-cell_first s h reader (sent blob index) = piece_first s h reader (piece_with (pieces s.limits.page h) (sent blob index))
+cell_first s h reader (sent blob index) = piece_first s h reader (piece_with (pieces (page_limit s) h) (sent blob index))
 cell_first s h reader (filed name stamp index) = tt
 cell_first s h reader (lent slot index) = ((_, _, refl), tt)
 
 read_first : (s : Session) (h : History) (reader : ReaderId) (cells : List Cell) → AllFirst (read_faults s h reader cells)
 read_first s h reader [] = tt
-read_first s h reader (cell ∷ cells) = both_first (cell_fault s h reader cell) (read_faults s h reader cells) (cell_first s h reader cell) (read_first s h reader cells)
+read_first s h reader (cell ∷ cells) = both_first (cell_fault s h reader cell) (read_faults s h reader cells) (cell_first s h reader cell)
+    (read_first s h reader cells)
 
-is_read_first : (s : Session) (h : History) (reader : ReaderId) (cells : List Cell) (first : Option Cell) (own : List Answer) → IsRead s h reader cells first own → HasFirst own
+is_read_first : (s : Session) (h : History) (reader : ReaderId) (cells : List Cell) (first : Option Cell) (own : List Answer) → IsRead s h reader cells first
+    own → HasFirst own
 is_read_first s h reader cells None own (inl given) = (_, _, given.1)
 is_read_first s h reader cells None own (inr fault) = first_of_one own (read_faults s h reader cells) (read_first s h reader cells) fault
 is_read_first s h reader cells (Some cell) own one =
-    first_of_one own ((answers.FileChanged reader (file_of cell) ∷ []) ∷ read_faults s h reader (before_failing h cells)) ((_, _, refl), read_first s h reader (before_failing h cells)) one
+    first_of_one own ((answers.FileChanged reader (file_of cell) ∷ []) ∷ read_faults s h reader (before_failing h cells))
+    ((_, _, refl), read_first s h reader (before_failing h cells)) one
 
-next_first : (s : Session) (h : History) (reader : ReaderId) (open_reader : OpenReader) (more : ℕ) (own : List Answer) → IsNext s h reader open_reader more own → HasFirst own
+next_first : (s : Session) (h : History) (reader : ReaderId) (open_reader : OpenReader) (more : ℕ) (own : List Answer) → IsNext s h reader open_reader more own
+    → HasFirst own
 next_first s h reader open_reader zero own e = (_, _, e)
-next_first s h reader open_reader (suc more) own one = is_read_first s h reader (chunk s.limits h open_reader) (first_failing h (chunk s.limits h open_reader)) own one
+next_first s h reader open_reader (suc more) own one = is_read_first s h reader (chunk s.limits h open_reader) (first_failing h (chunk s.limits h open_reader))
+    own one
 
-step_first : (s : Session) (h : History) (reader : ReaderId) (open_reader : OpenReader) (status : Option Status) (own : List Answer) → IsStepBy s h reader open_reader status own → HasFirst own
+step_first : (s : Session) (h : History) (reader : ReaderId) (open_reader : OpenReader) (status : Option Status) (own : List Answer)
+    → IsStepBy s h reader open_reader status own → HasFirst own
 step_first s h reader open_reader None own e = (_, _, e)
 step_first s h reader open_reader (Some statuses.Done) own one = next_first s h reader open_reader (left open_reader) own one
 step_first s h reader open_reader (Some status) own e = (_, _, e)
@@ -115,7 +121,7 @@ found_first s h reader None own one = absurd one
 found_first s h reader (Some open_reader) own one = step_first s h reader open_reader (ended h open_reader.blob) own one
 
 line_first : (s : Session) (h : History) (event : Event) (own : List Answer) → IsAccepted s h event own → HasFirst own
-line_first s h (events.Step reader) own one = found_first s h reader (reader_at s.limits.page h reader.0) own one
+line_first s h (events.Step reader) own one = found_first s h reader (reader_at (page_limit s) h reader.0) own one
 line_first s h event own one = first_of_one own (accepted s h event ∷ failing s h event) (accepted_first s h event, failing_first s h event) one
 
 own_by_first : (s : Session) (h : History) (event : Event) (why : Option Refusal) (own : List Answer) → IsOwnBy s h event why own → HasFirst own
@@ -129,7 +135,8 @@ own_first s h event own one = own_by_first s h event (refusal s h event) own one
 
 pub after_own : (h : History) (event : Event) (own rest : List Answer) → HasFirst own → after h event (own ++ rest) ≡ said_all (after h event own) rest
 after_own h event own rest first =
-    subst (λ (list : List Answer). after h event (list ++ rest) ≡ said_all (after h event list) rest) (sym first.2) (said_append (heard_first h event first.0) first.1 rest)
+    subst (λ (list : List Answer). after h event (list ++ rest) ≡ said_all (after h event list) rest) (sym first.2)
+    (said_append (heard_first h event first.0) first.1 rest)
 
 pub settled_group : (s : Session) (h : History) (group : Group) → Kept s h → IsLegalGroup s h group → IsSettled s (after h group.event group.answers)
 settled_group s h group kept legal =
@@ -144,7 +151,8 @@ settled_from : (s : Session) (h : History) (groups : List Group) → Kept s h �
 settled_from s h [] kept settled legal = settled
 settled_from s h (group ∷ groups) kept settled legal =
     settled_from s (after h group.event group.answers) groups
-    (kept_own s h group.event group.answers legal.0.own (settle s (left_files group.answers) (after h group.event legal.0.own)) kept legal.0.is_own legal.0.settles)
+    (kept_own s h group.event group.answers legal.0.own (settle s (left_files group.answers) (after h group.event legal.0.own)) kept legal.0.is_own
+    legal.0.settles)
     (settled_group s h group kept legal.0) legal.1
 
 pub settled_after : (s : Session) (groups : List Group) → IsLegalFrom s start groups → IsSettled s (history_from start groups)

@@ -6,7 +6,7 @@ use Rattle.std.specs.List.{AllByRecursion, list_any}
 use Rattle.answer_text.specs.declared.answer.Answer.{Answer}
 use Rattle.answer_text.specs.declared.answer.Answer.TheVariants as answers
 use Rattle.blob_words.specs.declared.status.Status.{Status}
-use Rattle.blob_model.specs.Session.{Session}
+use Rattle.blob_model.specs.Session.{Session, page_limit}
 use Rattle.blob_model.specs.History.{History, said, said_all}
 use Rattle.blob_model.specs.Builds.{Build, builds, build_in}
 use Rattle.blob_model.specs.Standing.{ended, is_broken, is_broken_status, is_done, is_done_status, was_granted, is_granted, grants_at_once}
@@ -90,7 +90,8 @@ granted_still h list name all = kept_by_kind (λ (g : History). was_granted g na
 
 pub live_late : (page : ℕ) (h : History) (list : List Answer) → AllLate list → live page (said_all h list) ≡ live page h
 live_late page h list all =
-    live_alike page h (said_all h list) (builds_all page h list) (rooted_said page h list) (λ name lives. ap (λ (o : Option Status). is_none o) (ended_late h list name all))
+    live_alike page h (said_all h list) (builds_all page h list) (rooted_said page h list)
+    (λ name lives. ap (λ (o : Option Status). is_none o) (ended_late h list name all))
 
 pub broken_late : (h : History) (list : List Answer) (name : ℕ) → AllLate list → is_broken (said_all h list) name ≡ is_broken h name
 broken_late h list name all = ap (λ (o : Option Status). option_map_or is_broken_status o false) (ended_late h list name all)
@@ -100,16 +101,19 @@ done_late h list name all = ap (λ (o : Option Status). option_map_or is_done_st
 
 pub cells_late : (page : ℕ) (h : History) (list : List Answer) → AllLate list → live_cells page (said_all h list) ≡ live_cells page h
 cells_late page h list all =
-    ap (λ (xs : List Build). map (λ (build : Build). build.cells) (filter (λ (build : Build). not (is_broken (said_all h list) build.name)) xs)) (live_late page h list all)
+    ap (λ (xs : List Build). map (λ (build : Build). build.cells) (filter (λ (build : Build). not (is_broken (said_all h list) build.name)) xs))
+    (live_late page h list all)
     ∙ ap (λ (xs : List Build). map (λ (build : Build). build.cells) xs)
-    (filter_same (λ (build : Build). not (is_broken (said_all h list) build.name)) (λ (build : Build). not (is_broken h build.name)) (live page h) (λ build i. not (broken_late h list build.name all i)))
+    (filter_same (λ (build : Build). not (is_broken (said_all h list) build.name)) (λ (build : Build). not (is_broken h build.name)) (live page h)
+    (λ build i. not (broken_late h list build.name all i)))
 
 pub drops_late : (s : Session) (h : History) (list : List Answer) → AllLate list → drops s (said_all h list) ≡ drops s h
 drops_late s h list all =
-    ap (λ (xs : List Build). map dropping (filter (drops_test s (said_all h list)) (reverse xs))) (builds_all s.limits.page h list)
+    ap (λ (xs : List Build). map dropping (filter (drops_test s (said_all h list)) (reverse xs))) (builds_all (page_limit s) h list)
     ∙ ap (λ (xs : List Build). map dropping xs)
-    (filter_same (drops_test s (said_all h list)) (drops_test s h) (reverse (builds s.limits.page h))
-    (λ build i. is_none (ended_late h list build.name all i) && not (list_any (λ (each : Build). each.name == build.name) (live_late s.limits.page h list all i))))
+    (filter_same (drops_test s (said_all h list)) (drops_test s h) (reverse (builds (page_limit s) h))
+    (λ build i. is_none (ended_late h list build.name all i) && not
+    (list_any (λ (each : Build). each.name == build.name) (live_late (page_limit s) h list all i))))
 
 -- ---- memory, where nothing is granted
 
@@ -145,11 +149,13 @@ waits_still page h list all =
 
 -- ---- page files, where more is granted
 
-pub more_filtered : {X : Type 0} (q r r' : X → Bool) (xs : List X) → ((x : X) → r x ≡ true → r' x ≡ true) → length (filter q (filter r xs)) ≤ length (filter q (filter r' xs))
+pub more_filtered : {X : Type 0} (q r r' : X → Bool) (xs : List X) → ((x : X) → r x ≡ true → r' x ≡ true) → length (filter q (filter r xs)) ≤ length
+    (filter q (filter r' xs))
 more_filtered q r r' [] up = omega arith
 more_filtered {X = X} q r r' (x ∷ xs) up = go (r x) (r' x) (q x) (up x) (more_filtered q r r' xs up)
   where
-    go : (a b c : Bool) → (a ≡ true → b ≡ true) → length (filter q (filter r xs)) ≤ length (filter q (filter r' xs)) → length (filter q (cond a (x ∷ filter r xs) (filter r xs))) ≤ length (filter q (cond b (x ∷ filter r' xs) (filter r' xs)))
+    go : (a b c : Bool) → (a ≡ true → b ≡ true) → length (filter q (filter r xs)) ≤ length (filter q (filter r' xs))
+        → length (filter q (cond a (x ∷ filter r xs) (filter r xs))) ≤ length (filter q (cond b (x ∷ filter r' xs) (filter r' xs)))
     go true false c f rest = absurd (false_true (f refl))
     go false false c f rest = rest
     go false true c f rest = more q x (filter r' xs) (length (filter q (filter r xs))) rest
@@ -162,6 +168,7 @@ more_filtered {X = X} q r r' (x ∷ xs) up = go (r x) (r' x) (q x) (up x) (more_
             pick false = low
     go true true c f rest = same (q x)
       where
-        same : (b : Bool) → length (cond b (x ∷ filter q (filter r xs)) (filter q (filter r xs))) ≤ length (cond b (x ∷ filter q (filter r' xs)) (filter q (filter r' xs)))
+        same : (b : Bool) → length (cond b (x ∷ filter q (filter r xs)) (filter q (filter r xs))) ≤ length
+            (cond b (x ∷ filter q (filter r' xs)) (filter q (filter r' xs)))
         same true = omega (arith, rest)
         same false = rest

@@ -9,7 +9,7 @@ use Rattle.session_script.specs.declared.event.Event.{Event}
 use Rattle.session_script.specs.declared.event.Event.TheVariants as events
 use Rattle.answer_text.specs.declared.answer.Answer.{Answer}
 use Rattle.answer_text.specs.declared.group.Group.{Group}
-use Rattle.blob_model.specs.Session.{Outside, Session}
+use Rattle.blob_model.specs.Session.{Outside, Session, page_limit}
 use Rattle.blob_model.specs.History.{History, start, after, has_ended}
 use Rattle.blob_model.specs.Tally.{tally}
 use Rattle.blob_model.specs.Settle.{settle}
@@ -47,14 +47,21 @@ same_tally-whole a b e = subst (λ (c : Tally). same_tally a c ≡ true) e (same
 -- the test where the own answers are these
 abbrev splits_as : Session → History → Group → List Answer → Bool
 splits_as s h group own =
-    elim (is_own s h group.event own) [ false ↦ false | true ↦ same_answers group.answers (own ++ settle s (left_files group.answers) (after h group.event own)) ]
+    elim (is_own s h group.event own) [
+      | false ↦ false
+      | true ↦ same_answers group.answers (own ++ settle s (left_files group.answers) (after h group.event own))
+    ]
 
 splits_as-sound : (s : Session) (h : History) (group : Group) (own : List Answer) → splits_as s h group own ≡ true
     → (IsOwn s h group.event own × (group.answers ≡ own ++ settle s (left_files group.answers) (after h group.event own)))
 splits_as-sound s h group own e = go (is_own s h group.event own) refl e
   where
     go : (b : Bool) → is_own s h group.event own ≡ b
-        → (elim b as (λ (x : Bool). Bool) [ false ↦ false | true ↦ same_answers group.answers (own ++ settle s (left_files group.answers) (after h group.event own)) ]) ≡ true
+        → (elim b as (λ (x : Bool). Bool) [
+          | false ↦ false
+          | true ↦ same_answers group.answers
+              (own ++ settle s (left_files group.answers) (after h group.event own))
+        ]) ≡ true
         → (IsOwn s h group.event own × (group.answers ≡ own ++ settle s (left_files group.answers) (after h group.event own)))
     go false at f = absurd (false_true f)
     go true at f =
@@ -83,7 +90,8 @@ some_up_to-whole : (test : ℕ → Bool) (m n : ℕ) → n ≤ m → test n ≡ 
 some_up_to-whole test zero n low e = let zeroed : n ≡ zero = omega arith in subst (λ (k : ℕ). test k ≡ true) zeroed e
 some_up_to-whole test (suc m) n low e = go (some_up_to test m) refl (λ below. some_up_to-whole test m n below e)
   where
-    go : (b : Bool) → some_up_to test m ≡ b → (n ≤ m → some_up_to test m ≡ true) → (elim b as (λ (x : Bool). Bool) [ true ↦ true | false ↦ test (suc m) ]) ≡ true
+    go : (b : Bool) → some_up_to test m ≡ b → (n ≤ m → some_up_to test m ≡ true) → (elim b as (λ (x : Bool). Bool) [ true ↦ true | false ↦ test (suc m) ])
+        ≡ true
     go true at found = refl
     go false at found =
         let above : n ≤ m → ⊥ = λ below. false_true (sym at ∙ found below) in
@@ -93,7 +101,8 @@ some_up_to-whole test (suc m) n low e = go (some_up_to test m) refl (λ below. s
 -- the test on a group after a history
 abbrev is_legal_group : Session → History → Group → Bool
 is_legal_group s h group =
-    not (has_ended h) && some_up_to (λ (n : ℕ). splits_as s h group (take n group.answers)) (length group.answers) && same_tally group.tally (tally s.limits.page (after h group.event group.answers))
+    not (has_ended h) && some_up_to (λ (n : ℕ). splits_as s h group (take n group.answers)) (length group.answers) && same_tally group.tally
+    (tally (page_limit s) (after h group.event group.answers))
 
 not_true : (b : Bool) → not b ≡ true → b ≡ false
 not_true true e = absurd (false_true e)
@@ -108,7 +117,8 @@ take_front (x ∷ xs) ys = ap (λ more. x ∷ more) (take_front xs ys)
 
 is_legal_group-sound : (s : Session) (h : History) (group : Group) → is_legal_group s h group ≡ true → IsLegalGroup s h group
 is_legal_group-sound s h group e =
-    let outer = and_parts (not (has_ended h) && some_up_to (λ (n : ℕ). splits_as s h group (take n group.answers)) (length group.answers)) (same_tally group.tally (tally s.limits.page (after h group.event group.answers))) e in
+    let outer = and_parts (not (has_ended h) && some_up_to (λ (n : ℕ). splits_as s h group (take n group.answers)) (length group.answers))
+    (same_tally group.tally (tally (page_limit s) (after h group.event group.answers))) e in
     let inner = and_parts (not (has_ended h)) (some_up_to (λ (n : ℕ). splits_as s h group (take n group.answers)) (length group.answers)) outer.0 in
     let split = some_up_to-sound (λ (n : ℕ). splits_as s h group (take n group.answers)) (length group.answers) inner.1 in
     let parts = splits_as-sound s h group (take split.0 group.answers) split.1 in
@@ -117,7 +127,7 @@ is_legal_group-sound s h group e =
       own = take split.0 group.answers;
       is_own = parts.0;
       settles = parts.1;
-      counts = same_tally-sound group.tally (tally s.limits.page (after h group.event group.answers)) outer.1;
+      counts = same_tally-sound group.tally (tally (page_limit s) (after h group.event group.answers)) outer.1;
     }
 
 is_legal_group-whole : (s : Session) (h : History) (group : Group) → IsLegalGroup s h group → is_legal_group s h group ≡ true
@@ -129,11 +139,12 @@ is_legal_group-whole s h group legal =
     let low : length own ≤ length group.answers = omega (arith, long) in
     let at : splits_as s h group (take (length own) group.answers) ≡ true =
     subst (λ (list : List Answer). splits_as s h group list ≡ true) (sym front) (splits_as-whole s h group own legal.is_own legal.settles) in
-    both (not (has_ended h) && some_up_to (λ (n : ℕ). splits_as s h group (take n group.answers)) (length group.answers)) (same_tally group.tally (tally s.limits.page (after h group.event group.answers)))
+    both (not (has_ended h) && some_up_to (λ (n : ℕ). splits_as s h group (take n group.answers)) (length group.answers))
+    (same_tally group.tally (tally (page_limit s) (after h group.event group.answers)))
     (both (not (has_ended h)) (some_up_to (λ (n : ℕ). splits_as s h group (take n group.answers)) (length group.answers))
     (false_not (has_ended h) legal.open_still)
     (some_up_to-whole (λ (n : ℕ). splits_as s h group (take n group.answers)) (length group.answers) (length own) low at))
-    (same_tally-whole group.tally (tally s.limits.page (after h group.event group.answers)) legal.counts)
+    (same_tally-whole group.tally (tally (page_limit s) (after h group.event group.answers)) legal.counts)
 
 -- the test on groups after a history, which ends at the first that isn't legal
 abbrev pub is_legal_from : Session → History → List Group → Bool
@@ -153,7 +164,8 @@ is_legal_from-sound s h (group ∷ groups) e = go (is_legal_group s h group) ref
 
 pub is_legal_from-whole : (s : Session) (h : History) (groups : List Group) → IsLegalFrom s h groups → is_legal_from s h groups ≡ true
 is_legal_from-whole s h [] legal = refl
-is_legal_from-whole s h (group ∷ groups) legal = rw (is_legal_group-whole s h group legal.0, is_legal_from) (is_legal_from-whole s (after h group.event group.answers) groups legal.1)
+is_legal_from-whole s h (group ∷ groups) legal = rw (is_legal_group-whole s h group legal.0, is_legal_from)
+    (is_legal_from-whole s (after h group.event group.answers) groups legal.1)
 
 -- the version and the limits that a first line states
 abbrev stated : Event → Option (Version × Limits)
@@ -174,19 +186,23 @@ stated_opening One l = refl
 stated_opening Two l = refl
 
 -- what a legal transcript says of the groups behind its first line
-pub behind_opening : (outside : Outside) (version : Version) (l : Limits) (groups : List Group) → IsLegal outside (opening version l ∷ groups) → IsLegalFrom (session outside version l) start groups
+pub behind_opening : (outside : Outside) (version : Version) (l : Limits) (groups : List Group) → IsLegal outside (opening version l ∷ groups)
+    → IsLegalFrom (session outside version l) start groups
 behind_opening outside version l groups legal =
     let at : Some (version, l) ≡ Some (legal.0, legal.1) =
     sym (stated_opening version l) ∙ ap (λ (group : Group). stated group.event) legal.2 ∙ stated_opening legal.0 legal.1 in
     let same_version : version ≡ legal.0 = ap (version_of version) at in
     let same_limits : l ≡ legal.1 = ap (limits_of l) at in
-    let moved : IsLegalFrom (session outside version legal.1) start groups = subst (λ (v : Version). IsLegalFrom (session outside v legal.1) start groups) (sym same_version) legal.3 in
+    let moved : IsLegalFrom (session outside version legal.1) start groups = subst (λ (v : Version). IsLegalFrom (session outside v legal.1) start groups)
+    (sym same_version) legal.3 in
     subst (λ (k : Limits). IsLegalFrom (session outside version k) start groups) (sym same_limits) moved
 
 -- a transcript that passes is legal, and one that doesn't is not
-pub legal_by : (outside : Outside) (version : Version) (l : Limits) (groups : List Group) → is_legal_from (session outside version l) start groups ≡ true → IsLegal outside (opening version l ∷ groups)
+pub legal_by : (outside : Outside) (version : Version) (l : Limits) (groups : List Group) → is_legal_from (session outside version l) start groups ≡ true
+    → IsLegal outside (opening version l ∷ groups)
 legal_by outside version l groups e = (version, l, refl, is_legal_from-sound (session outside version l) start groups e)
 
-pub illegal_by : (outside : Outside) (version : Version) (l : Limits) (groups : List Group) → is_legal_from (session outside version l) start groups ≡ false → IsLegal outside (opening version l ∷ groups) → ⊥
+pub illegal_by : (outside : Outside) (version : Version) (l : Limits) (groups : List Group) → is_legal_from (session outside version l) start groups ≡ false
+    → IsLegal outside (opening version l ∷ groups) → ⊥
 illegal_by outside version l groups e legal =
     false_true (sym e ∙ is_legal_from-whole (session outside version l) start groups (behind_opening outside version l groups legal))

@@ -246,13 +246,15 @@ pub same_refusal-sound : (a b : Refusal) → same_refusal a b ≡ true → a ≡
 same_refusal-sound (refusals.NoRenderer a0) (refusals.NoRenderer b0) e = let e0 : a0 ≡ b0 = same_renderer-sound a0 b0 e in λ i. refusals.NoRenderer (e0 i)
 same_refusal-sound (refusals.RendererUsed a0) (refusals.RendererUsed b0) e = let e0 : a0 ≡ b0 = same_renderer-sound a0 b0 e in λ i. refusals.RendererUsed (e0 i)
 same_refusal-sound (refusals.NameUsed a0) (refusals.NameUsed b0) e = let e0 : a0 ≡ b0 = same_number-sound a0 b0 e in λ i. refusals.NameUsed (e0 i)
-same_refusal-sound (refusals.NoHandle a0 a1) (refusals.NoHandle b0 b1) e = let p1 = and_parts (same_renderer a0 b0) (same_number a1 b1) e in let e0 : a0 ≡ b0 = same_renderer-sound a0 b0 p1.0 in let e1 : a1 ≡ b1 = same_number-sound a1 b1 p1.1 in λ i. refusals.NoHandle (e0 i) (e1 i)
+same_refusal-sound (refusals.NoHandle a0 a1) (refusals.NoHandle b0 b1) e = let p1 = and_parts (same_renderer a0 b0) (same_number a1 b1) e in
+    let e0 : a0 ≡ b0 = same_renderer-sound a0 b0 p1.0 in let e1 : a1 ≡ b1 = same_number-sound a1 b1 p1.1 in λ i. refusals.NoHandle (e0 i) (e1 i)
 same_refusal-sound (refusals.NoSuchHandle a0) (refusals.NoSuchHandle b0) e = let e0 : a0 ≡ b0 = same_number-sound a0 b0 e in λ i. refusals.NoSuchHandle (e0 i)
 same_refusal-sound (refusals.HandleTaken a0) (refusals.HandleTaken b0) e = let e0 : a0 ≡ b0 = same_number-sound a0 b0 e in λ i. refusals.HandleTaken (e0 i)
 same_refusal-sound (refusals.NoTransport a0) (refusals.NoTransport b0) e = let e0 : a0 ≡ b0 = same_number-sound a0 b0 e in λ i. refusals.NoTransport (e0 i)
 same_refusal-sound (refusals.BadSegment a0) (refusals.BadSegment b0) e = let e0 : a0 ≡ b0 = same_number-sound a0 b0 e in λ i. refusals.BadSegment (e0 i)
 same_refusal-sound (refusals.SegmentTaken a0) (refusals.SegmentTaken b0) e = let e0 : a0 ≡ b0 = same_number-sound a0 b0 e in λ i. refusals.SegmentTaken (e0 i)
-same_refusal-sound (refusals.SegmentLength a0) (refusals.SegmentLength b0) e = let e0 : a0 ≡ b0 = same_number-sound a0 b0 e in λ i. refusals.SegmentLength (e0 i)
+same_refusal-sound (refusals.SegmentLength a0) (refusals.SegmentLength b0) e = let e0 : a0 ≡ b0 = same_number-sound a0 b0 e in
+    λ i. refusals.SegmentLength (e0 i)
 same_refusal-sound (refusals.ReaderUsed a0) (refusals.ReaderUsed b0) e = let e0 : a0 ≡ b0 = same_reader-sound a0 b0 e in λ i. refusals.ReaderUsed (e0 i)
 same_refusal-sound (refusals.NoReader a0) (refusals.NoReader b0) e = let e0 : a0 ≡ b0 = same_reader-sound a0 b0 e in λ i. refusals.NoReader (e0 i)
 same_refusal-sound (refusals.Range a0) (refusals.Range b0) e = let e0 : a0 ≡ b0 = same_number-sound a0 b0 e in λ i. refusals.Range (e0 i)

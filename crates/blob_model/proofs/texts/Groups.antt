@@ -8,7 +8,7 @@ use Rattle.answer_text.specs.Text.{HasText, TallyHasText, GroupHasText}
 use Rattle.answer_text.specs.declared.answer.Answer.{Answer}
 use Rattle.answer_text.specs.declared.answer.Answer.TheVariants as answers
 use Rattle.answer_text.specs.declared.group.Group.{Group}
-use Rattle.blob_model.specs.Session.{Session}
+use Rattle.blob_model.specs.Session.{Session, page_limit}
 use Rattle.blob_model.specs.History.{History, start, said, heard_first, said_all, after}
 use Rattle.blob_model.specs.Builds.{builds}
 use Rattle.blob_model.specs.Pieces.{pieces}
@@ -52,11 +52,13 @@ spelt_first : (h : History) (event : Event) (answer : Answer) → HasSpelling ev
 spelt_first h event (answers.Refused why) line spelt = (line, spelt)
 spelt_first h event answer line spelt = (line, spelt)
 
-first_text : (s : Session) (h : History) (event : Event) (answer : Answer) → IsCaused s (heard_first h event answer) → IsSpelt h → Fit (builds s.limits.page h) → HasSpelling event → GivesBytes answer → HasText answer
+first_text : (s : Session) (h : History) (event : Event) (answer : Answer) → IsCaused s (heard_first h event answer) → IsSpelt h → Fit (builds (page_limit s) h)
+    → HasSpelling event → GivesBytes answer → HasText answer
 first_text s h event (answers.Refused why) caused spelt fit line gives = refusal_text s h event why caused.2 spelt line caused.1
 first_text s h event answer caused spelt fit line gives = heard_text s h event answer caused.0 caused.1 spelt fit line gives
 
-answers_text : (s : Session) (h : History) (event : Event) (list : List Answer) → IsCaused s (after h event list) → IsSpelt h → Fit (builds s.limits.page h) → HasSpelling event → AllGive list → AllHaveText list
+answers_text : (s : Session) (h : History) (event : Event) (list : List Answer) → IsCaused s (after h event list) → IsSpelt h → Fit (builds (page_limit s) h)
+    → HasSpelling event → AllGive list → AllHaveText list
 answers_text s h event [] caused spelt fit line gives = tt
 answers_text s h event (answer ∷ more) caused spelt fit line gives =
     let later = said_texts s (heard_first h event answer) more caused (spelt_first h event answer line spelt) in
@@ -80,14 +82,15 @@ rise_count from below (file ∷ list) low rise =
     let rest = rise_count (file.number + 1) below list (omega (arith, under)) rise.2 in
     omega (arith, above, rest)
 
-tally_text : (s : Session) (h : History) → IsCaused s h → memory s.limits.page h ≤ s.limits.memory → disk s.limits.page h ≤ s.limits.disk → TallyHasText (tally s.limits.page h)
+tally_text : (s : Session) (h : History) → IsCaused s h → memory (page_limit s) h ≤ s.limits.memory → disk (page_limit s) h ≤ s.limits.disk
+    → TallyHasText (tally (page_limit s) h)
 tally_text s h caused memory_low disk_low =
     let totals = totals_hold s h caused in
     let most = totals.all_pieces in
-    let few = filter_short (is_reached s h) (pieces s.limits.page h) in
+    let few = filter_short (is_reached s h) (pieces (page_limit s) h) in
     let memory_bound = s.limits.memory_bound in
     let disk_bound = s.limits.disk_bound in
-    let held = filter_short (λ (page : Page). nat_lt 0 (length (in_page_of h (builds s.limits.page h) page (reached s.limits.page h)))) (pages h) in
+    let held = filter_short (λ (page : Page). nat_lt 0 (length (in_page_of h (builds (page_limit s) h) page (reached (page_limit s) h)))) (pages h) in
     let written = rise_count 0 (next_page h) (pages h) (omega arith) (pages_rise s h caused) in
     let numbers = pages_low s h caused in
     (omega (arith, few, most), omega (arith, memory_low, memory_bound), omega (arith, held, written, numbers), omega (arith, disk_low, disk_bound))
@@ -96,17 +99,18 @@ tally_text s h caused memory_low disk_low =
 
 record Here (s : Session) (h : History) : Type 0 where
   caused : IsCaused s h
-  fit : Fit (builds s.limits.page h)
+  fit : Fit (builds (page_limit s) h)
   bounded : Bounded s h
   fits : Fits s h
   spelt : IsSpelt h
 
-groups_text : (s : Session) (h : History) (groups : List Group) → Here s h → IsLegalFrom s h groups → AllByRecursion IsSpelled groups → AllByRecursion GroupHasText groups
+groups_text : (s : Session) (h : History) (groups : List Group) → Here s h → IsLegalFrom s h groups → AllByRecursion IsSpelled groups
+    → AllByRecursion GroupHasText groups
 groups_text s h [] here legal spelled = tt
 groups_text s h (group ∷ groups) here legal spelled =
     let next : Here s (after h group.event group.answers) = record {
       caused = group_caused s h group here.bounded.kept here.caused legal.0;
-      fit = fit_grows s h (builds s.limits.page (after h group.event group.answers)) (grows s h group legal.0) here.fit;
+      fit = fit_grows s h (builds (page_limit s) (after h group.event group.answers)) (grows s h group legal.0) here.fit;
       bounded = group_bounded s h group here.bounded legal.0;
       fits = group_disk s h group here.bounded legal.0 here.fits;
       spelt = spelt_after h group.event group.answers spelled.0.event here.spelt;
@@ -120,4 +124,5 @@ groups_text s h (group ∷ groups) here legal spelled =
     )
 
 pub groups_have_text : (s : Session) (groups : List Group) → IsLegalFrom s start groups → AllByRecursion IsSpelled groups → AllByRecursion GroupHasText groups
-groups_have_text s groups legal spelled = groups_text s start groups (record { caused = tt; fit = tt; bounded = bounded_start s; fits = fits_start s; spelt = tt }) legal spelled
+groups_have_text s groups legal spelled = groups_text s start groups
+    (record { caused = tt; fit = tt; bounded = bounded_start s; fits = fits_start s; spelt = tt }) legal spelled

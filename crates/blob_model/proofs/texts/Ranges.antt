@@ -19,7 +19,7 @@ use Rattle.session_script.specs.declared.event.Part.{Part}
 use Rattle.session_script.specs.declared.event.Part.TheVariants.{Embedded, Asked, FileRange, BlobRange, HandleRange}
 use Rattle.answer_text.specs.declared.answer.Answer.{Answer}
 use Rattle.answer_text.specs.declared.answer.Answer.TheVariants as answers
-use Rattle.blob_model.specs.Session.{Session}
+use Rattle.blob_model.specs.Session.{Session, page_limit}
 use Rattle.blob_model.specs.History.{History, start, heard, refused, said}
 use Rattle.blob_model.specs.Recorded.{last_stamp, last_stamp_after}
 use Rattle.blob_model.specs.Builds.{Cell, sent, filed, lent, Build, builds, build_in, cells_in, own_cells, file_cells, handle_cells, cells_of, planned_cells, plan_told, slice_parts, built}
@@ -70,7 +70,8 @@ kept_text : (kind : List ℕ) → IsContentType kind → IsContentType (kept_typ
 kept_text kind text = go (is_kept kind)
   where
     go : (b : Bool) → IsContentType (if b then map to_ascii_lowercase kind else [])
-    go true = let short = text.1 in let same = length-map kind to_ascii_lowercase in ((λ i. bytes_map to_ascii_lowercase kind lower_low text.0 i), omega (arith, short, same))
+    go true = let short = text.1 in let same = length-map kind to_ascii_lowercase in
+        ((λ i. bytes_map to_ascii_lowercase kind lower_low text.0 i), omega (arith, short, same))
     go false = no_text
 
 -- ---- cells
@@ -116,42 +117,57 @@ cells_found list name all = go (build_in list name) refl
     go None at = tt
     go (Some build) at = (found_all BuildHasText (λ (each : Build). each.name == name) list build all at).cells
 
-parts_text : (list : List Build) (name from : ℕ) (parts : List Part) → AllHaveText list → AllByRecursion PartHasText parts → CellsHaveText (cells_of list name from parts)
+parts_text : (list : List Build) (name from : ℕ) (parts : List Part) → AllHaveText list → AllByRecursion PartHasText parts
+    → CellsHaveText (cells_of list name from parts)
 parts_text list name from [] all text = tt
 parts_text list name from (Embedded bytes ∷ parts) all text =
-    all_append CellHasText (own_cells name from (length bytes)) (cells_of list name (from + length bytes) parts) (all_mapped (λ (index : ℕ). sent name index) (range_with_len from (length bytes)) (λ i. tt))
+    all_append CellHasText (own_cells name from (length bytes)) (cells_of list name (from + length bytes) parts)
+    (all_mapped (λ (index : ℕ). sent name index) (range_with_len from (length bytes)) (λ i. tt))
     (parts_text list name (from + length bytes) parts all text.1)
 parts_text list name from (Asked len ∷ parts) all text =
-    all_append CellHasText (own_cells name from len) (cells_of list name (from + len) parts) (all_mapped (λ (index : ℕ). sent name index) (range_with_len from len) (λ i. tt)) (parts_text list name (from + len) parts all text.1)
+    all_append CellHasText (own_cells name from len) (cells_of list name (from + len) parts)
+    (all_mapped (λ (index : ℕ). sent name index) (range_with_len from len) (λ i. tt)) (parts_text list name (from + len) parts all text.1)
 parts_text list name from (FileRange file off len stamp ∷ parts) all text =
-    all_append CellHasText (file_cells file stamp off len) (cells_of list name from parts) (all_mapped (λ (index : ℕ). filed file stamp index) (range_with_len off len) (λ i. text.0.0)) (parts_text list name from parts all text.1)
+    all_append CellHasText (file_cells file stamp off len) (cells_of list name from parts)
+    (all_mapped (λ (index : ℕ). filed file stamp index) (range_with_len off len) (λ i. text.0.0)) (parts_text list name from parts all text.1)
 parts_text list name from (BlobRange b off len ∷ parts) all text =
     all_append CellHasText (take len (drop off (cells_in list b))) (cells_of list name from parts)
-    (all_taken CellHasText len (drop off (cells_in list b)) (all_dropped CellHasText off (cells_in list b) (cells_found list b all))) (parts_text list name from parts all text.1)
+    (all_taken CellHasText len (drop off (cells_in list b)) (all_dropped CellHasText off (cells_in list b) (cells_found list b all)))
+    (parts_text list name from parts all text.1)
 parts_text list name from (HandleRange k off len ∷ parts) all text =
-    all_append CellHasText (handle_cells k off len) (cells_of list name from parts) (all_mapped (λ (index : ℕ). lent k index) (range_with_len off len) (λ i. text.0.0)) (parts_text list name from parts all text.1)
+    all_append CellHasText (handle_cells k off len) (cells_of list name from parts)
+    (all_mapped (λ (index : ℕ). lent k index) (range_with_len off len) (λ i. text.0.0)) (parts_text list name from parts all text.1)
 
-planned_text : (list : List Build) (name : ℕ) (parts : List Part) (plan : Option Plan) → CellsHaveText (cells_of list name 0 parts) → CellsHaveText (planned_cells list name parts plan)
+planned_text : (list : List Build) (name : ℕ) (parts : List Part) (plan : Option Plan) → CellsHaveText (cells_of list name 0 parts)
+    → CellsHaveText (planned_cells list name parts plan)
 planned_text list name parts None text = tt
 planned_text list name parts (Some plan) text = text
 
-built_text : (s : Session) (h : History) (event : Event) (answer : Answer) → HasSpelling event → AllHaveText (builds s.limits.page h) → AllHaveText (builds s.limits.page (heard h event answer))
+built_text : (s : Session) (h : History) (event : Event) (answer : Answer) → HasSpelling event → AllHaveText (builds (page_limit s) h)
+    → AllHaveText (builds (page_limit s) (heard h event answer))
 built_text s h (events.Build renderer name kind parts) answer spelt all =
-    all_more BuildHasText (builds s.limits.page h) (built s.limits.page (builds s.limits.page h) renderer.0 name kind parts (plan_told answer)) all
-    (record { name = spelt.1; kind = kept_text kind spelt.2; cells = planned_text (builds s.limits.page h) name parts (plan_told answer) (parts_text (builds s.limits.page h) name 0 parts all spelt.4) })
+    all_more BuildHasText (builds (page_limit s) h) (built (page_limit s) (builds (page_limit s) h) renderer.0 name kind parts (plan_told answer)) all
+    (record {
+      name = spelt.1;
+      kind = kept_text kind spelt.2;
+      cells = planned_text (builds (page_limit s) h) name parts (plan_told answer)
+          (parts_text (builds (page_limit s) h) name 0 parts all spelt.4);
+    })
 built_text s h (events.Slice renderer name source from to kind) answer spelt all =
-    all_more BuildHasText (builds s.limits.page h) (built s.limits.page (builds s.limits.page h) renderer.0 name kind (slice_parts (builds s.limits.page h) source from to) (plan_told answer)) all
+    all_more BuildHasText (builds (page_limit s) h) (built (page_limit s) (builds (page_limit s) h) renderer.0 name kind
+    (slice_parts (builds (page_limit s) h) source from to) (plan_told answer)) all
     (record {
       name = spelt.1;
       kind = kept_text kind spelt.5;
       cells =
-          planned_text (builds s.limits.page h) name (slice_parts (builds s.limits.page h) source from to) (plan_told answer)
-          (all_append CellHasText (take _ (drop _ (cells_in (builds s.limits.page h) source))) []
-          (all_taken CellHasText _ (drop _ (cells_in (builds s.limits.page h) source)) (all_dropped CellHasText _ (cells_in (builds s.limits.page h) source) (cells_found (builds s.limits.page h) source all))) tt);
+          planned_text (builds (page_limit s) h) name (slice_parts (builds (page_limit s) h) source from to) (plan_told answer)
+          (all_append CellHasText (take _ (drop _ (cells_in (builds (page_limit s) h) source))) []
+          (all_taken CellHasText _ (drop _ (cells_in (builds (page_limit s) h) source))
+          (all_dropped CellHasText _ (cells_in (builds (page_limit s) h) source) (cells_found (builds (page_limit s) h) source all))) tt);
     })
 built_text s h event answer spelt all = all
 
-pub builds_text : (s : Session) (h : History) → IsSpelt h → AllHaveText (builds s.limits.page h)
+pub builds_text : (s : Session) (h : History) → IsSpelt h → AllHaveText (builds (page_limit s) h)
 builds_text s start spelt = tt
 builds_text s (heard h event answer) spelt = built_text s h event answer spelt.0 (builds_text s h spelt.1)
 builds_text s (refused h event why) spelt = builds_text s h spelt.1
@@ -159,7 +175,8 @@ builds_text s (said h answer) spelt = builds_text s h spelt
 
 -- ---- stamps
 
-stamp_low : (event : Event) (name : List ℕ) (before : Option ℕ) → HasSpelling event → IfSome before (λ (stamp : ℕ). stamp < 2 ^ 64) → IfSome (last_stamp_after event name before) (λ (stamp : ℕ). stamp < 2 ^ 64)
+stamp_low : (event : Event) (name : List ℕ) (before : Option ℕ) → HasSpelling event → IfSome before (λ (stamp : ℕ). stamp < 2 ^ 64)
+    → IfSome (last_stamp_after event name before) (λ (stamp : ℕ). stamp < 2 ^ 64)
 stamp_low (events.File file stamp bytes) name before spelt low = go (bytes_eq file name)
   where
     go : (b : Bool) → IfSome (if b then Some stamp else before) (λ (each : ℕ). each < 2 ^ 64)
@@ -190,21 +207,29 @@ ends_with false status before one was = was
 abbrev EndsAfter : History → ℕ → Answer → Type 0
 EndsAfter h name answer = EndsWell (ended_after answer name (ended h name))
 
-first_ends : (s : Session) (h : History) (event : Event) (answer : Answer) (rest : List Answer) (name : ℕ) → OwnCase s h event (answer ∷ rest) → EndsWell (ended h name) → EndsAfter h name answer
-first_ends s h event answer rest name (idle one e free) was = subst (EndsAfter h name) (sym (same_first answer one rest [] e)) (subst EndsWell (sym (idle_ends one name (ended h name) free)) was)
+first_ends : (s : Session) (h : History) (event : Event) (answer : Answer) (rest : List Answer) (name : ℕ) → OwnCase s h event (answer ∷ rest)
+    → EndsWell (ended h name) → EndsAfter h name answer
+first_ends s h event answer rest name (idle one e free) was = subst (EndsAfter h name) (sym (same_first answer one rest [] e))
+    (subst EndsWell (sym (idle_ends one name (ended h name) free)) was)
 first_ends s h event answer rest name (breaks b status broken building e) was =
     subst (EndsAfter h name) (sym (same_first answer (answers.Broken b status) rest [] e)) (ends_with (b == name) status (ended h name) (inr (inl broken)) was)
-first_ends s h event answer rest name (stores renderer b segment bytes n same at e) was = subst (EndsAfter h name) (sym (same_first answer (answers.Taken segment) rest _ e)) was
-first_ends s h event answer rest name (unstores renderer b segment bytes n same at e) was = subst (EndsAfter h name) (sym (same_first answer (answers.Taken segment) rest _ e)) was
-first_ends s h event answer rest name (replies job one same e reply done) was = subst (EndsAfter h name) (sym (same_first answer one rest [] e)) (subst EndsWell (sym (reply_ends one name (ended h name) reply)) was)
+first_ends s h event answer rest name (stores renderer b segment bytes n same at e) was =
+    subst (EndsAfter h name) (sym (same_first answer (answers.Taken segment) rest _ e)) was
+first_ends s h event answer rest name (unstores renderer b segment bytes n same at e) was =
+    subst (EndsAfter h name) (sym (same_first answer (answers.Taken segment) rest _ e)) was
+first_ends s h event answer rest name (replies job one same e reply done) was = subst (EndsAfter h name) (sym (same_first answer one rest [] e))
+    (subst EndsWell (sym (reply_ends one name (ended h name) reply)) was)
 first_ends s h event answer rest name (loses job same e) was = subst (EndsAfter h name) (sym (same_first answer (answers.LostJob job) rest [] e)) was
 
 second_ends : (s : Session) (h : History) (answer : Answer) (name : ℕ) → IsFurther s h answer → EndsWell (ended h name) → EndsAfter h name answer
 second_ends s h answer name (by_store g renderer b segment bytes n same passes at e) was = subst (EndsAfter h name) (sym e) was
 second_ends s h answer name (by_unstore g renderer b segment bytes n same passes at e) was = subst (EndsAfter h name) (sym e) was
-second_ends s h answer name (by_drop build found begun unrooted e) was = subst (EndsAfter h name) (sym e) (ends_with (build.name == name) statuses.Dereferenced (ended h name) (inr (inr refl)) was)
-second_ends s h answer name (by_break build found begun status broken e) was = subst (EndsAfter h name) (sym e) (ends_with (build.name == name) status (ended h name) (inr (inl broken)) was)
-second_ends s h answer name (by_done build found begun complete e) was = subst (EndsAfter h name) (sym e) (ends_with (build.name == name) statuses.Done (ended h name) (inl refl) was)
+second_ends s h answer name (by_drop build found begun unrooted e) was =
+    subst (EndsAfter h name) (sym e) (ends_with (build.name == name) statuses.Dereferenced (ended h name) (inr (inr refl)) was)
+second_ends s h answer name (by_break build found begun status broken e) was =
+    subst (EndsAfter h name) (sym e) (ends_with (build.name == name) status (ended h name) (inr (inl broken)) was)
+second_ends s h answer name (by_done build found begun complete e) was =
+    subst (EndsAfter h name) (sym e) (ends_with (build.name == name) statuses.Done (ended h name) (inl refl) was)
 second_ends s h answer name (by_removal number written left (inl e)) was = subst (EndsAfter h name) (sym e) was
 second_ends s h answer name (by_removal number written left (inr e)) was = subst (EndsAfter h name) (sym e) was
 second_ends s h answer name (by_grant build found e) was = subst (EndsAfter h name) (sym e) was
@@ -213,7 +238,8 @@ second_ends s h answer name (by_compaction file may found e) was = subst (EndsAf
 
 pub ends_well : (s : Session) (h : History) (name : ℕ) → IsCaused s h → EndsWell (ended h name)
 ends_well s start name caused = tt
-ends_well s (heard h event answer) name caused = first_ends s h event answer caused.0.rest name (own_case s h event (answer ∷ caused.0.rest) caused.0.own) (ends_well s h name caused.1)
+ends_well s (heard h event answer) name caused = first_ends s h event answer caused.0.rest name (own_case s h event (answer ∷ caused.0.rest) caused.0.own)
+    (ends_well s h name caused.1)
 ends_well s (refused h event why) name caused = ends_well s h name caused.2
 ends_well s (said h answer) name caused = second_ends s h answer name caused.0 (ends_well s h name caused.1)
 
@@ -228,24 +254,31 @@ not_dropped status broken e =
     let same : status ≡ statuses.Dereferenced = cc in
     false_true (sym (ap is_broken_status same) ∙ broken)
 
-first_drops : (s : Session) (h : History) (event : Event) (answer : Answer) (rest : List Answer) (name : ℕ) → OwnCase s h event (answer ∷ rest) → DroppedAs h name answer → ended h name ≡ Some statuses.Dereferenced
-first_drops s h event answer rest name (idle one e free) d = sym (idle_ends one name (ended h name) free) ∙ subst (DroppedAs h name) (same_first answer one rest [] e) d
-first_drops s h event answer rest name (breaks b status broken building e) d = go (b == name) (subst (DroppedAs h name) (same_first answer (answers.Broken b status) rest [] e) d)
+first_drops : (s : Session) (h : History) (event : Event) (answer : Answer) (rest : List Answer) (name : ℕ) → OwnCase s h event (answer ∷ rest)
+    → DroppedAs h name answer → ended h name ≡ Some statuses.Dereferenced
+first_drops s h event answer rest name (idle one e free) d = sym (idle_ends one name (ended h name) free) ∙ subst (DroppedAs h name)
+    (same_first answer one rest [] e) d
+first_drops s h event answer rest name (breaks b status broken building e) d =
+    go (b == name) (subst (DroppedAs h name) (same_first answer (answers.Broken b status) rest [] e) d)
   where
     go : (c : Bool) → cond c (Some status) (ended h name) ≡ Some statuses.Dereferenced → ended h name ≡ Some statuses.Dereferenced
     go true f = absurd (not_dropped status broken f)
     go false f = f
-first_drops s h event answer rest name (stores renderer b segment bytes n same at e) d = subst (DroppedAs h name) (same_first answer (answers.Taken segment) rest _ e) d
-first_drops s h event answer rest name (unstores renderer b segment bytes n same at e) d = subst (DroppedAs h name) (same_first answer (answers.Taken segment) rest _ e) d
-first_drops s h event answer rest name (replies job one same e reply done) d = sym (reply_ends one name (ended h name) reply) ∙ subst (DroppedAs h name) (same_first answer one rest [] e) d
+first_drops s h event answer rest name (stores renderer b segment bytes n same at e) d =
+    subst (DroppedAs h name) (same_first answer (answers.Taken segment) rest _ e) d
+first_drops s h event answer rest name (unstores renderer b segment bytes n same at e) d =
+    subst (DroppedAs h name) (same_first answer (answers.Taken segment) rest _ e) d
+first_drops s h event answer rest name (replies job one same e reply done) d = sym (reply_ends one name (ended h name) reply) ∙ subst (DroppedAs h name)
+    (same_first answer one rest [] e) d
 first_drops s h event answer rest name (loses job same e) d = subst (DroppedAs h name) (same_first answer (answers.LostJob job) rest [] e) d
 
 -- what was dropped was built, and nothing roots it
 pub record IsOver (s : Session) (h : History) (name : ℕ) : Type 0 where
-  pub built : named name (builds s.limits.page h) ≡ true
-  pub unrooted : is_rooted s.limits.page h name ≡ false
+  pub built : named name (builds (page_limit s) h) ≡ true
+  pub unrooted : is_rooted (page_limit s) h name ≡ false
 
-second_drops : (s : Session) (h : History) (answer : Answer) (name : ℕ) → IsFurther s h answer → (ended h name ≡ Some statuses.Dereferenced → IsOver s h name) → DroppedAs h name answer → IsOver s h name
+second_drops : (s : Session) (h : History) (answer : Answer) (name : ℕ) → IsFurther s h answer → (ended h name ≡ Some statuses.Dereferenced → IsOver s h name)
+    → DroppedAs h name answer → IsOver s h name
 second_drops s h answer name (by_store g renderer b segment bytes n same passes at e) was d = was (subst (DroppedAs h name) e d)
 second_drops s h answer name (by_unstore g renderer b segment bytes n same passes at e) was d = was (subst (DroppedAs h name) e d)
 second_drops s h answer name (by_drop build found begun unrooted e) was d = go (build.name == name) refl (subst (DroppedAs h name) e d)
@@ -255,8 +288,9 @@ second_drops s h answer name (by_drop build found begun unrooted e) was d = go (
     go true at f =
         let same : build.name ≡ name = eqb-true build.name name at in
         record {
-          built = subst (λ (n : ℕ). named n (builds s.limits.page h) ≡ true) same (sym (found_named (builds s.limits.page h) build.name) ∙ ap (λ (o : Option Build). is_some o) found);
-          unrooted = subst (λ (n : ℕ). is_rooted s.limits.page h n ≡ false) same unrooted;
+          built = subst (λ (n : ℕ). named n (builds (page_limit s) h) ≡ true) same
+              (sym (found_named (builds (page_limit s) h) build.name) ∙ ap (λ (o : Option Build). is_some o) found);
+          unrooted = subst (λ (n : ℕ). is_rooted (page_limit s) h n ≡ false) same unrooted;
         }
 second_drops s h answer name (by_break build found begun status broken e) was d = go (build.name == name) (subst (DroppedAs h name) e d)
   where
@@ -275,53 +309,60 @@ second_drops s h answer name (by_page_job number more may at e) was d = was (sub
 second_drops s h answer name (by_compaction file may found e) was d = was (subst (DroppedAs h name) e d)
 
 -- a line roots nothing that was over
-over_heard : (s : Session) (h : History) (event : Event) (answer : Answer) (name : ℕ) → IsHeard s h event answer → IsCaused s h → IsOver s h name → is_rooted s.limits.page (heard h event answer) name ≡ false
-over_heard s h event answer name line caused over = pick (is_rooted s.limits.page (heard h event answer) name) refl
+over_heard : (s : Session) (h : History) (event : Event) (answer : Answer) (name : ℕ) → IsHeard s h event answer → IsCaused s h → IsOver s h name
+    → is_rooted (page_limit s) (heard h event answer) name ≡ false
+over_heard s h event answer name line caused over = pick (is_rooted (page_limit s) (heard h event answer) name) refl
   where
     holders : HoldersSpawned h
     holders = holders_caused s h caused
 
-    never : is_rooted s.limits.page h name ≡ true → ⊥
+    never : is_rooted (page_limit s) h name ≡ true → ⊥
     never e = false_true (sym over.unrooted ∙ e)
 
-    fresh_other : (new : ℕ) → build_in (builds s.limits.page h) new ≡ None → (name == new) ≡ true → ⊥
+    fresh_other : (new : ℕ) → build_in (builds (page_limit s) h) new ≡ None → (name == new) ≡ true → ⊥
     fresh_other new none e =
         let same : name ≡ new = eqb-true name new e in
-        false_true (sym (sym (found_named (builds s.limits.page h) new) ∙ ap (λ (o : Option Build). is_some o) none) ∙ subst (λ (n : ℕ). named n (builds s.limits.page h) ≡ true) same over.built)
+        false_true (sym (sym (found_named (builds (page_limit s) h) new) ∙ ap (λ (o : Option Build). is_some o) none) ∙ subst
+        (λ (n : ℕ). named n (builds (page_limit s) h) ≡ true) same over.built)
 
-    none_found : (new : ℕ) → is_some (build_in (builds s.limits.page h) new) ≡ false → build_in (builds s.limits.page h) new ≡ None
-    none_found new e = go (build_in (builds s.limits.page h) new) e
+    none_found : (new : ℕ) → is_some (build_in (builds (page_limit s) h) new) ≡ false → build_in (builds (page_limit s) h) new ≡ None
+    none_found new e = go (build_in (builds (page_limit s) h) new) e
       where
         go : (found : Option Build) → is_some found ≡ false → found ≡ None
         go None f = refl
         go (Some build) f = absurd (false_true (sym f))
 
-    rooted : (each : Event) → refusal s h each ≡ None → is_rooted s.limits.page (heard h each answer) name ≡ true → ⊥
+    rooted : (each : Event) → refusal s h each ≡ None → is_rooted (page_limit s) (heard h each answer) name ≡ true → ⊥
     rooted (events.Build renderer b kind parts) passes e =
         ⊎_elim never (fresh_other b (none_found b (tests_fail s h (events.Build renderer b kind parts) passes).1.0))
-        (build_roots s h (heard h (events.Build renderer b kind parts) answer) renderer.0 b holders (λ holder m has. one_case ((renderer.0 == holder) && (b == m)) (count h holder m) has) name
+        (build_roots s h (heard h (events.Build renderer b kind parts) answer) renderer.0 b holders
+        (λ holder m has. one_case ((renderer.0 == holder) && (b == m)) (count h holder m) has) name
         (λ held. let who = holder_of (heard h (events.Build renderer b kind parts) answer) name held in (who.0.number, who.1)) e)
     rooted (events.Slice renderer b source from to kind) passes e =
         ⊎_elim never (fresh_other b (none_found b (tests_fail s h (events.Slice renderer b source from to kind) passes).1.0))
-        (build_roots s h (heard h (events.Slice renderer b source from to kind) answer) renderer.0 b holders (λ holder m has. one_case ((renderer.0 == holder) && (b == m)) (count h holder m) has) name
+        (build_roots s h (heard h (events.Slice renderer b source from to kind) answer) renderer.0 b holders
+        (λ holder m has. one_case ((renderer.0 == holder) && (b == m)) (count h holder m) has) name
         (λ held. let who = holder_of (heard h (events.Slice renderer b source from to kind) answer) name held in (who.0.number, who.1)) e)
     rooted each passes e = never (rooted_before s h each answer name holders passes refl e)
 
-    pick : (c : Bool) → is_rooted s.limits.page (heard h event answer) name ≡ c → c ≡ false
+    pick : (c : Bool) → is_rooted (page_limit s) (heard h event answer) name ≡ c → c ≡ false
     pick false at = refl
     pick true at = absurd (rooted event line.passes at)
 
-named_on : (s : Session) (h : History) (event : Event) (answer : Answer) (name : ℕ) → named name (builds s.limits.page h) ≡ true → named name (builds s.limits.page (heard h event answer)) ≡ true
-named_on s h (events.Build renderer b kind parts) answer name e = any_append_first (λ (each : Build). each.name == name) (builds s.limits.page h) _ e
-named_on s h (events.Slice renderer b source from to kind) answer name e = any_append_first (λ (each : Build). each.name == name) (builds s.limits.page h) _ e
+named_on : (s : Session) (h : History) (event : Event) (answer : Answer) (name : ℕ) → named name (builds (page_limit s) h) ≡ true
+    → named name (builds (page_limit s) (heard h event answer)) ≡ true
+named_on s h (events.Build renderer b kind parts) answer name e = any_append_first (λ (each : Build). each.name == name) (builds (page_limit s) h) _ e
+named_on s h (events.Slice renderer b source from to kind) answer name e = any_append_first (λ (each : Build). each.name == name) (builds (page_limit s) h) _ e
 named_on s h event answer name e = e
 
 pub dropped_over : (s : Session) (h : History) (name : ℕ) → IsCaused s h → ended h name ≡ Some statuses.Dereferenced → IsOver s h name
 dropped_over s start name caused e = cc
 dropped_over s (heard h event answer) name caused e =
-    let before = dropped_over s h name caused.1 (first_drops s h event answer caused.0.rest name (own_case s h event (answer ∷ caused.0.rest) caused.0.own) e) in
+    let before = dropped_over s h name caused.1 (first_drops s h event answer caused.0.rest name (own_case s h event (answer ∷ caused.0.rest) caused.0.own) e)
+    in
     record { built = named_on s h event answer name before.built; unrooted = over_heard s h event answer name caused.0 caused.1 before }
-dropped_over s (refused h event why) name caused e = let before = dropped_over s h name caused.2 e in record { built = before.built; unrooted = before.unrooted }
+dropped_over s (refused h event why) name caused e = let before = dropped_over s h name caused.2 e in
+    record { built = before.built; unrooted = before.unrooted }
 dropped_over s (said h answer) name caused e =
     let before = second_drops s h answer name caused.0 (dropped_over s h name caused.1) e in
     record { built = before.built; unrooted = before.unrooted }

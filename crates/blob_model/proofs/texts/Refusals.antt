@@ -18,7 +18,7 @@ use Rattle.answer_text.specs.Text.{RefusalHasText}
 use Rattle.answer_text.specs.declared.refusal.Refusal.{Refusal}
 use Rattle.transport_plan.specs.Spans.{IsEndToEnd, segment_spans}
 use Rattle.transport_plan.proofs.PlanSpans.{cover_plan}
-use Rattle.blob_model.specs.Session.{Session}
+use Rattle.blob_model.specs.Session.{Session, page_limit}
 use Rattle.blob_model.specs.History.{History}
 use Rattle.blob_model.specs.Recorded.{last_stamp}
 use Rattle.blob_model.specs.Parts.{part_length, parts_length, own_lengths, own_bytes, claims}
@@ -48,25 +48,30 @@ own_within (Asked len ∷ parts) =
     let left = sum_by-cons (λ (x : ℕ). x) len (own_lengths parts) in
     let right = sum_by-cons part_length (Asked len) parts in
     omega (arith, rest, left, right)
-own_within (FileRange name off len stamp ∷ parts) = let rest = own_within parts in let right = sum_by-cons part_length (FileRange name off len stamp) parts in omega (arith, rest, right)
-own_within (BlobRange b off len ∷ parts) = let rest = own_within parts in let right = sum_by-cons part_length (BlobRange b off len) parts in omega (arith, rest, right)
-own_within (HandleRange k off len ∷ parts) = let rest = own_within parts in let right = sum_by-cons part_length (HandleRange k off len) parts in omega (arith, rest, right)
+own_within (FileRange name off len stamp ∷ parts) = let rest = own_within parts in let right = sum_by-cons part_length (FileRange name off len stamp) parts in
+    omega (arith, rest, right)
+own_within (BlobRange b off len ∷ parts) = let rest = own_within parts in let right = sum_by-cons part_length (BlobRange b off len) parts in
+    omega (arith, rest, right)
+own_within (HandleRange k off len ∷ parts) = let rest = own_within parts in let right = sum_by-cons part_length (HandleRange k off len) parts in
+    omega (arith, rest, right)
 
 size_low : (s : Session) (build : Build) → IsPlanned s build → size build ≤ 2 ^ 62
 size_low s build planned = go build.plan planned
   where
-    go : (plan : Option Plan) → IfSome plan (λ (each : Plan). FitsParts s build.parts each × (parts_length build.parts ≤ 2 ^ 62)) → planned_size plan build.parts ≤ 2 ^ 62
+    go : (plan : Option Plan) → IfSome plan (λ (each : Plan). FitsParts s build.parts each × (parts_length build.parts ≤ 2 ^ 62))
+        → planned_size plan build.parts ≤ 2 ^ 62
     go None one = omega arith
     go (Some plan) one = one.1
 
 -- the size of each blob
-pub sizes_low : (s : Session) (h : History) (name : ℕ) → IsCaused s h → size_in (builds s.limits.page h) name < 2 ^ 64
-sizes_low s h name caused = go (build_in (builds s.limits.page h) name) refl
+pub sizes_low : (s : Session) (h : History) (name : ℕ) → IsCaused s h → size_in (builds (page_limit s) h) name < 2 ^ 64
+sizes_low s h name caused = go (build_in (builds (page_limit s) h) name) refl
   where
-    go : (found : Option Build) → build_in (builds s.limits.page h) name ≡ found → option_map_or size found 0 < 2 ^ 64
+    go : (found : Option Build) → build_in (builds (page_limit s) h) name ≡ found → option_map_or size found 0 < 2 ^ 64
     go None at = omega arith
     go (Some build) at =
-        let low = size_low s build (found_all (IsPlanned s) (λ (each : Build). each.name == name) (builds s.limits.page h) build (all_planned s h caused) at) in
+        let low = size_low s build (found_all (IsPlanned s) (λ (each : Build). each.name == name) (builds (page_limit s) h) build (all_planned s h caused) at)
+        in
         omega (arith, low)
 
 -- few segments, and short ones
@@ -80,7 +85,8 @@ spans_few s build planned = go build.plan planned
     none : FewSpans []
     none = record { few = omega arith; short = λ k span e. cc }
 
-    cut : (plan : Plan) → (length (segment_spans (own_lengths build.parts) plan s.limits) ≤ 65536) → IsEndToEnd 0 (segment_spans (own_lengths build.parts) plan s.limits) (own_bytes build.parts) → parts_length build.parts ≤ 2 ^ 62
+    cut : (plan : Plan) → (length (segment_spans (own_lengths build.parts) plan s.limits) ≤ 65536)
+        → IsEndToEnd 0 (segment_spans (own_lengths build.parts) plan s.limits) (own_bytes build.parts) → parts_length build.parts ≤ 2 ^ 62
         → FewSpans (segment_spans (own_lengths build.parts) plan s.limits)
     cut plan few ends low = record {
       few = few;
@@ -141,17 +147,20 @@ claims_low (FileRange name off len stamp ∷ parts) all = claims_low parts all.1
 claims_low (BlobRange b off len ∷ parts) all = claims_low parts all.1
 claims_low (HandleRange k off len ∷ parts) all = (all.0.0, claims_low parts all.1)
 
-segment_refuse : (s : Session) (h : History) (renderer : RendererId) (b segment len : ℕ) (found : Option Build) → b < 2 ^ 128 → segment < 2 ^ 32 → ((build : Build) → found ≡ Some build → IsPlanned s build) → AllRefuse (segment_refusals s h renderer b segment len found)
+segment_refuse : (s : Session) (h : History) (renderer : RendererId) (b segment len : ℕ) (found : Option Build) → b < 2 ^ 128 → segment < 2 ^ 32
+    → ((build : Build) → found ≡ Some build → IsPlanned s build) → AllRefuse (segment_refusals s h renderer b segment len found)
 segment_refuse s h renderer b segment len None name low planned = (name, tt)
 segment_refuse s h renderer b segment len (Some build) name low planned =
     let few = spans_few s build (planned build refl) in
     let count = few.few in
     (name, (omega (arith, count), (low, (span_low (spans s.limits build) segment few, tt))))
 
-reader_refuse : (s : Session) (h : History) (reader : ReaderId) (b off : ℕ) (len : Option ℕ) → IsCaused s h → reader.0 < 2 ^ 32 → AllRefuse (reader_refusals s h reader b off len)
+reader_refuse : (s : Session) (h : History) (reader : ReaderId) (b off : ℕ) (len : Option ℕ) → IsCaused s h → reader.0 < 2 ^ 32
+    → AllRefuse (reader_refusals s h reader b off len)
 reader_refuse s h reader b off len caused low = (low, (sizes_low s h b caused, (tt, tt)))
 
-fetch_refuse : (s : Session) (h : History) (reader : ReaderId) (found : Option Entry) (off : ℕ) (len : Option ℕ) → IsCaused s h → reader.0 < 2 ^ 32 → AllRefuse (fetch_refusals s h reader found off len)
+fetch_refuse : (s : Session) (h : History) (reader : ReaderId) (found : Option Entry) (off : ℕ) (len : Option ℕ) → IsCaused s h → reader.0 < 2 ^ 32
+    → AllRefuse (fetch_refusals s h reader found off len)
 fetch_refuse s h reader None off len caused low = (tt, tt)
 fetch_refuse s h reader (Some entry) off len caused low = reader_refuse s h reader entry.blob off len caused low
 
@@ -166,13 +175,19 @@ all_refuse s h (events.Spawn renderer origin) caused spelt line = (line.0, (tt, 
 all_refuse s h (events.Die renderer) caused spelt line = (line, tt)
 all_refuse s h (events.File name stamp bytes) caused spelt line = (last_low (last_stamp h name) (stamps_low h name spelt), (tt, tt))
 all_refuse s h (events.Gone name) caused spelt line = (tt, tt)
-all_refuse s h (events.Build renderer name kind parts) caused spelt line =
-    (line.0, (line.1, all_append (λ (case : Bool × Refusal). RefusalHasText (case.1)) (slot_refusals s (claimed s h) (claims parts)) _ (slots_refuse s (claimed s h) (claims parts) (claims_low parts line.4)) (tt, (tt, (tt, (tt, tt))))))
+all_refuse s h (events.Build renderer name kind parts) caused spelt line = (
+  line.0,
+  (
+    line.1,
+    all_append (λ (case : Bool × Refusal). RefusalHasText (case.1)) (slot_refusals s (claimed s h) (claims parts)) _
+        (slots_refuse s (claimed s h) (claims parts) (claims_low parts line.4)) (tt, (tt, (tt, (tt, tt)))),
+  ),
+)
 all_refuse s h (events.Slice renderer name source from to kind) caused spelt line = (line.0, (line.1, ((line.0, line.2), (tt, (tt, tt)))))
 all_refuse s h (events.Segment renderer b segment bytes) caused spelt line = (
   line.0,
-  segment_refuse s h renderer b segment (length bytes) (build_in (builds s.limits.page h) b) line.1 line.2
-      (λ build found. found_all (IsPlanned s) (λ (each : Build). each.name == b) (builds s.limits.page h) build (all_planned s h caused) found),
+  segment_refuse s h renderer b segment (length bytes) (build_in (builds (page_limit s) h) b) line.1 line.2
+      (λ build found. found_all (IsPlanned s) (λ (each : Build). each.name == b) (builds (page_limit s) h) build (all_planned s h caused) found),
 )
 all_refuse s h (events.Pass renderer to b) caused spelt line = (line.0, (line.1, ((line.0, line.2), tt)))
 all_refuse s h (events.Drop renderer b) caused spelt line = (line.0, ((line.0, line.1), tt))
@@ -180,7 +195,8 @@ all_refuse s h (events.Stat renderer b) caused spelt line = (line.0, ((line.0, l
 all_refuse s h (events.Url renderer b text) caused spelt line = (line.0, ((line.0, line.1), (tt, (tt, (tt, tt)))))
 all_refuse s h (events.Revoke renderer text) caused spelt line = (line.0, tt)
 all_refuse s h (events.Read renderer reader b off len) caused spelt line = (line.0, ((line.0, line.2), reader_refuse s h reader b off len caused line.1))
-all_refuse s h (events.Fetch renderer reader text off len) caused spelt line = (line.0, fetch_refuse s h reader (resolved h renderer.0 text) off len caused line.1)
+all_refuse s h (events.Fetch renderer reader text off len) caused spelt line =
+    (line.0, fetch_refuse s h reader (resolved h renderer.0 text) off len caused line.1)
 all_refuse s h (events.Step reader) caused spelt line = (line, tt)
 all_refuse s h (events.Cancel renderer reader) caused spelt line = (line.0, (line.1, tt))
 all_refuse s h (events.Disk job) caused spelt line = (line, tt)
@@ -188,5 +204,6 @@ all_refuse s h (events.Lost job) caused spelt line = (line, tt)
 all_refuse s h events.Count caused spelt line = tt
 all_refuse s h events.Finish caused spelt line = tt
 
-pub refusal_text : (s : Session) (h : History) (event : Event) (why : Refusal) → IsCaused s h → IsSpelt h → HasSpelling event → refusal s h event ≡ Some why → RefusalHasText why
+pub refusal_text : (s : Session) (h : History) (event : Event) (why : Refusal) → IsCaused s h → IsSpelt h → HasSpelling event → refusal s h event ≡ Some why
+    → RefusalHasText why
 refusal_text s h event why caused spelt line e = some_that RefusalHasText (refusals_of s h event) why (all_refuse s h event caused spelt line) e

@@ -12,9 +12,11 @@ use Rattle.plan_laws.specs.Laws.{span_of}
 use Rattle.plan_laws.proofs.pieces_agree.Goals as goal
 
 of_part : (page name from len : ℕ) → map span_of (part_pieces page name from len) ≡ cut_spans page from len
-of_part page name from len = map-map span_of (λ (k : ℕ). record { blob = name; from = from + k * page; len = min page (len - k * page) }) (range_with_len 0 (div_ceil len page))
+of_part page name from len = map-map span_of (λ (k : ℕ). record { blob = name; from = from + k * page; len = min page (len - k * page) })
+    (range_with_len 0 (div_ceil len page))
 
-of_parts : (page name from : ℕ) (parts : List Part) → map span_of (pieces_from page name from parts) ≡ piece_spans page from (map (λ (part : Part). length (part_bytes part)) parts)
+of_parts : (page name from : ℕ) (parts : List Part) → map span_of (pieces_from page name from parts)
+    ≡ piece_spans page from (map (λ (part : Part). length (part_bytes part)) parts)
 of_parts page name from [] = refl
 of_parts page name from (part ∷ parts) =
     let len = length (part_bytes part) in

@@ -5,6 +5,7 @@ use Rattle.blob_registry.specs.Sweeps.{swept}
 use Rattle.blob_model.specs.Builds.{Build, builds}
 use Rattle.blob_model.specs.Order.{named}
 use Rattle.blob_model.specs.Live.{is_live}
+use Rattle.blob_model.specs.Session.{page_limit}
 use Rattle.registry_laws.proofs.Drops.{dropped_so}
 use Rattle.registry_laws.proofs.Lives.{behind_all, live_living, standing_living}
 use Rattle.registry_laws.proofs.Places.{ArePlaced, names_of, placed}
@@ -12,8 +13,8 @@ use Rattle.registry_laws.proofs.live_agree.Goals as goal
 
 pub returns : goal.returns
 returns c s h book tell =
-    let page = s.limits.page in
-    let list = builds s.limits.page h in
+    let page = (page_limit s) in
+    let list = builds (page_limit s) h in
     let at : ArePlaced book.names 0 list = subst (λ (names : List ℕ). ArePlaced names 0 list) (sym tell.agree.names) (placed list tell.distinct) in
     record {
       left = ap (λ (names : List ℕ). standing names (swept book.names 0 book.entries)) tell.agree.names

@@ -4,6 +4,7 @@ use Rattle.blob_model.specs.Builds.{Build, builds}
 use Rattle.blob_model.specs.History.{said_all}
 use Rattle.blob_model.specs.Settle.{endings}
 use Rattle.blob_model.proofs.live.Agreement.{builds_all}
+use Rattle.blob_model.specs.Session.{page_limit}
 use Rattle.registry_laws.specs.Agree.{Agrees, Beside}
 use Rattle.registry_laws.proofs.Lives.{behind_all}
 use Rattle.registry_laws.proofs.Passed.{pass_agrees}
@@ -12,8 +13,8 @@ use Rattle.registry_laws.proofs.pass_agrees.Goals as goal
 
 pub returns : goal.returns
 returns c s h before after list tell marks finishes =
-    let page = s.limits.page in
-    let all = builds s.limits.page h in
+    let page = (page_limit s) in
+    let all = builds (page_limit s) h in
     let at : ArePlaced before.names 0 all = subst (λ (names : List ℕ). ArePlaced names 0 all) (sym tell.agree.names) (placed all tell.distinct) in
     let same : builds page (said_all h (endings s h)) ≡ all = builds_all page h (endings s h) in
     record {

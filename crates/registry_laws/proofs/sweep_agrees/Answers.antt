@@ -7,6 +7,7 @@ use Rattle.blob_model.specs.Live.{is_live}
 use Rattle.blob_model.specs.Order.{named}
 use Rattle.blob_model.specs.Settle.{drops}
 use Rattle.blob_model.proofs.live.Agreement.{builds_all}
+use Rattle.blob_model.specs.Session.{page_limit}
 use Rattle.registry_laws.specs.Agree.{Agrees, AgreesToEnd, Beside}
 use Rattle.registry_laws.proofs.Left.{all_over, swept_agrees, swept_marked}
 use Rattle.registry_laws.proofs.Lives.{behind_all, live_living, living}
@@ -15,8 +16,8 @@ use Rattle.registry_laws.proofs.sweep_agrees.Goals as goal
 
 pub returns : goal.returns
 returns c s h book tell =
-    let page = s.limits.page in
-    let list = builds s.limits.page h in
+    let page = (page_limit s) in
+    let list = builds (page_limit s) h in
     let at : ArePlaced book.names 0 list = subst (λ (names : List ℕ). ArePlaced names 0 list) (sym tell.agree.names) (placed list tell.distinct) in
     let tells : (name : ℕ) → named name list ≡ true → is_live page h name ≡ named name (living page h list) =
     λ name there. ap (λ (xs : List Build). named name xs) (live_living page h) in

@@ -10,5 +10,6 @@ returns c names entries has rooted sources number entry left =
     subst (λ (n : ℕ). has n ≡ true) (zero-add number)
     (least names (λ (n : ℕ). has n ≡ true) entries 0 (λ k root. subst (λ (n : ℕ). has n ≡ true) (sym (zero-add k)) (rooted k root))
     (λ k other need stands. subst (λ (n : ℕ). has n ≡ true) (sym (zero-add k))
-    (sources k other (subst (λ (n : ℕ). needs names n (entry_at entries other) ≡ true) (zero-add k) need) (subst (λ (n : ℕ). has n ≡ true) (zero-add other) stands)))
+    (sources k other (subst (λ (n : ℕ). needs names n (entry_at entries other) ≡ true) (zero-add k) need)
+    (subst (λ (n : ℕ). has n ≡ true) (zero-add other) stands)))
     number entry left)

@@ -9,7 +9,8 @@ pub returns-in_default-clause-group : goal.returns-in_default-clause-group
 returns-in_default-clause-group c = unended_place c.args.text.now (subst (λ t. has_line_feed t ≡ false) c.new-lines.ensures.rest c.in_default.ensures.0)
 
 pub returns-in_default-clause-none : goal.returns-in_default-clause-none
-returns-in_default-clause-none c = λ place is. place_no_group c.args.text.now 0 (unended_place c.args.text.now (subst (λ t. has_line_feed t ≡ false) c.new-lines.ensures.rest c.in_default.ensures.0))
+returns-in_default-clause-none c = λ place is. place_no_group c.args.text.now 0
+    (unended_place c.args.text.now (subst (λ t. has_line_feed t ≡ false) c.new-lines.ensures.rest c.in_default.ensures.0))
 
 pub returns-in-Err-Form-clause-group : goal.returns-in-Err-Form-clause-group
 returns-in-Err-Form-clause-group c =
@@ -24,7 +25,8 @@ returns-in-Err-Form-clause-none c = λ place is.
 
 pub returns-in-Ok-read_behind-clause-group : goal.returns-in-Ok-read_behind-clause-group
 returns-in-Ok-read_behind-clause-group c =
-    group_whole c.args.text.now c.in-Some.line.now c.next.new.self.rest.now c.read_behind.new.lines.rest.now c.next.new.self.total c.at.result c.in-Ok.event c.in-Ok-read_behind.answers c.in-Ok-read_behind.tally
+    group_whole c.args.text.now c.in-Some.line.now c.next.new.self.rest.now c.read_behind.new.lines.rest.now c.next.new.self.total c.at.result c.in-Ok.event
+    c.in-Ok-read_behind.answers c.in-Ok-read_behind.tally
     (sym c.new-lines.ensures.rest ∙ c.in-Some.ensures.1) c.in-Ok.ensures (c.in-Some.ensures.2 ∙ c.new-lines.ensures.total) c.in-Ok-read_behind.ensures.lines
     (c.at.ensures ∙ ap (λ total. total - length c.read_behind.new.lines.rest.now) c.read_behind.ensures.total)
 

@@ -14,5 +14,6 @@ pub loop-number-preserved : goal.loop-number-preserved
 loop-number-preserved c =
     let number : ℕ = get_or c.args.numbers.now c.loop-number.number-index 0 in
     let below = c.requires.below number (among_at c.args.numbers.now c.loop-number.number-index c.loop-number-test.true) in
-    let more = put_more (λ (n : ℕ). n) c.args.looks.now c.loop-number.looks (take c.loop-number.number-index c.args.numbers.now) number plain_places below c.loop-number.invariant in
+    let more = put_more (λ (n : ℕ). n) c.args.looks.now c.loop-number.looks (take c.loop-number.number-index c.args.numbers.now) number plain_places below
+    c.loop-number.invariant in
     rw (c.set.ensures, take_more c.args.numbers.now c.loop-number.number-index 0 c.loop-number-test.true) more

@@ -13,5 +13,6 @@ pub loop-number-preserved : goal.loop-number-preserved
 loop-number-preserved c =
     let number : ℕ = get_or c.args.numbers.now c.loop-number.number-index 0 in
     let below = c.requires.below number (among_at c.args.numbers.now c.loop-number.number-index c.loop-number-test.true) in
-    let more = put_more turned c.args.weighs.now c.loop-number.weighs (take c.loop-number.number-index c.args.numbers.now) number turned_places below c.loop-number.invariant in
+    let more = put_more turned c.args.weighs.now c.loop-number.weighs (take c.loop-number.number-index c.args.numbers.now) number turned_places below
+    c.loop-number.invariant in
     rw (c.set.ensures, c.turned.ensures.value, take_more c.args.numbers.now c.loop-number.number-index 0 c.loop-number-test.true) more

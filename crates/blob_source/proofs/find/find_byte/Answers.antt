@@ -26,7 +26,8 @@ same_place s text (Some k) (Some i) where_is first =
     let at = position-Some (λ byte. byte == s) text i 0 where_is in
     ⊎_elim
     (λ (less : k < i). absurd (false≢true (sym (at.2 k less) ∙ first.1)))
-    (λ (more : i ≤ k). ⊎_elim (λ (past : i < k). absurd (first.0.before i (omega arith) past at.1)) (λ (same : k ≤ i). ap Some (omega (arith, more, same))) (cases_lt i k))
+    (λ (more : i ≤ k). ⊎_elim (λ (past : i < k). absurd (first.0.before i (omega arith) past at.1)) (λ (same : k ≤ i). ap Some (omega (arith, more, same)))
+    (cases_lt i k))
     (cases_lt k i)
 
 pub returns : goal.returns

@@ -7,7 +7,8 @@ pub loop-rest-preserved : goal.loop-rest-preserved
 loop-rest-preserved g c = record {
   good = c.in-Ok.ensures.good ∙ c.loop-rest.invariant.good;
   went =
-      went_more _ (g.K.Sink.held c.loop-rest.out) _ _ c.loop-rest.rest.now _ c.in-Ok.count c.loop-rest.invariant.went c.in-Ok.ensures.bytes c.split_at.ensures.back;
+      went_more _ (g.K.Sink.held c.loop-rest.out) _ _ c.loop-rest.rest.now _ c.in-Ok.count c.loop-rest.invariant.went c.in-Ok.ensures.bytes
+      c.split_at.ensures.back;
 }
 
 pub returns-in-Err-clause-err : goal.returns-in-Err-clause-err

@@ -24,10 +24,15 @@ blocks-2-preserved c =
 
 pub rest-preserved : goal.rest-preserved
 rest-preserved c =
-    decode_pair c.args.text.now c.rest.out c.rest.at _ _ (omega arith) (omega arith) c.value-high.ensures c.value-low.ensures c.if-high.false c.if-low.false c.rest.invariant.1
+    decode_pair c.args.text.now c.rest.out c.rest.at _ _ (omega arith) (omega arith) c.value-high.ensures c.value-low.ensures c.if-high.false c.if-low.false
+    c.rest.invariant.1
 
 pub returns-clause-digits : goal.returns-clause-digits
-returns-clause-digits c = (λ e. spelled_digits _ _ (Spells_all c.args.text.now c.rest.out c.rest.at (omega arith) (omega arith) c.rest.invariant.1), λ all. refl)
+returns-clause-digits c = (
+  λ e. spelled_digits _ _ (Spells_all c.args.text.now c.rest.out c.rest.at (omega arith) (omega arith) c.rest.invariant.1),
+  λ all.
+      refl,
+)
 
 pub returns-clause-spelled : goal.returns-clause-spelled
 returns-clause-spelled c e = (Spells_all c.args.text.now c.rest.out c.rest.at (omega arith) (omega arith) c.rest.invariant.1).is

@@ -14,4 +14,5 @@ pub returns : goal.returns
 returns c =
     let room = c.loop-at.invariant.0 in
     let done : IsOk c.encode_to_slice.result = c.encode_to_slice.ensures.fits.1 (omega arith) in
-    encode_last c.args.bytes.now c.loop-at.out _ c.loop-at.at (omega arith) (omega arith) (on_ok _ _ done c.encode_to_slice.ensures.written) c.loop-at.invariant.1
+    encode_last c.args.bytes.now c.loop-at.out _ c.loop-at.at (omega arith) (omega arith) (on_ok _ _ done c.encode_to_slice.ensures.written)
+    c.loop-at.invariant.1

@@ -15,6 +15,7 @@ loop-change-preserved c =
     let before = take place changes in
     let put = c.put_by.ensures in
     let found = c.loop-change.invariant in
-    let after : take (place + 1) changes ≡ before ++ change ∷ [] = take_more changes place change c.loop-change-test.true ∙ ap (λ (one : Change). before ++ one ∷ []) (sym c.change-item.is) in
+    let after : take (place + 1) changes ≡ before ++ change ∷ [] = take_more changes place change c.loop-change-test.true ∙ ap
+    (λ (one : Change). before ++ one ∷ []) (sym c.change-item.is) in
     ap option_copied c.or-found.ensures ∙ copied_or c.put_by.result c.loop-change.found ∙ (λ i. option_or (put i) (found i))
     ∙ sym (last_put_more page before change) ∙ ap (last_put page) (sym after)

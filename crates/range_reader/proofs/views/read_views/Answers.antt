@@ -17,7 +17,8 @@ read_at-requires-clause-lies g c =
     let view = c.index-views-place.result in
     let within = view_within views c.loop-done.place c.loop-done.skip view inside c.index-views-place.is first in
     let there : item_at c.args.shares.now view.slot ≡ Some c.in-Some.item.now = search rules in
-    next_lies _ _ c.args.shares.now views c.loop-done.place c.loop-done.skip c.min-size.result view c.in-Some.item.now so_far.so_far.from c.requires.lie inside c.index-views-place.is (omega (arith, within, c.min-size.ensures)) there
+    next_lies _ _ c.args.shares.now views c.loop-done.place c.loop-done.skip c.min-size.result view c.in-Some.item.now so_far.so_far.from c.requires.lie inside
+    c.index-views-place.is (omega (arith, within, c.min-size.ensures)) there
 
 pub loop-done-smaller : goal.loop-done-smaller
 loop-done-smaller g c =
@@ -55,7 +56,9 @@ loop-done-preserved g c =
       within = λ left. first_some (drop (place + 1) views) (omega (arith, room, left));
       room = omega (arith, room);
       done = omega (arith, size_is, more);
-      so_far = read_on _ views _ _ _ _ _ place skip done count size _ c.read_at.new.out view c.in-Some.item.now inside c.index-views-place.is within more size_is there long c.in-Ok.ensures.front (λ i. origins c.args.files.now (c.in-Ok.ensures.same i) (c.in-Ok.ensures.ok.calm.0 i)) so_far.so_far c.in-Ok.ensures.ok;
+      so_far = read_on _ views _ _ _ _ _ place skip done count size _ c.read_at.new.out view c.in-Some.item.now inside c.index-views-place.is within more
+          size_is there long c.in-Ok.ensures.front (λ i. origins c.args.files.now (c.in-Ok.ensures.same i) (c.in-Ok.ensures.ok.calm.0 i)) so_far.so_far
+          c.in-Ok.ensures.ok;
     }
 
 pub returns-in-Err-clause-err : goal.returns-in-Err-clause-err
@@ -74,4 +77,5 @@ returns-in-Err-clause-err g c =
     let within = view_within views place skip view inside c.index-views-place.is first in
     let there : item_at c.args.shares.now view.slot ≡ Some c.in-Some.item.now = search rules in
     let size_is : size ≡ min (view.len - skip) (count - done) = c.min-size.ensures ∙ omega (arith, so_far.size) in
-    stops_at c.args.shares.now views _ _ _ _ _ place skip done count size _ view c.in-Some.item.now c.in-Err.fault inside c.index-views-place.is within more size_is there so_far.so_far c.in-Err.ensures.err
+    stops_at c.args.shares.now views _ _ _ _ _ place skip done count size _ view c.in-Some.item.now c.in-Err.fault inside c.index-views-place.is within more
+    size_is there so_far.so_far c.in-Err.ensures.err

@@ -14,4 +14,5 @@ returns-in-Some-clause-err c =
     let old = c.in-Some.one.now in
     let with : List (ℕ × ℕ) → Living = λ counts. record { origin = old.origin; counts = counts } in
     let found : lookup here c.args.living.now.entries ≡ Some old = sym c.get_mut.ensures.value ∙ ap option_copied_mut c.in-Some.is in
-    on_err c.add_one.result (λ same. (c.get_mut.follows.holds (with c.add_one.new.self)).0 ∙ ap (λ one. set_value here c.args.living.now.entries one) (ap with same) ∙ set_value_same here c.args.living.now.entries old found) c.add_one.ensures.err
+    on_err c.add_one.result (λ same. (c.get_mut.follows.holds (with c.add_one.new.self)).0 ∙ ap (λ one. set_value here c.args.living.now.entries one)
+    (ap with same) ∙ set_value_same here c.args.living.now.entries old found) c.add_one.ensures.err

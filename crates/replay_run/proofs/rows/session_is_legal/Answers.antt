@@ -15,7 +15,10 @@ returns c = (
         record { open_still = refl; own_answer = _; is_own = refl; settles = refl; counts = refl },
         (
           record { open_still = refl; own_answer = _; is_own = refl; settles = refl; counts = refl },
-          (record { open_still = refl; own_answer = _; is_own = refl; settles = refl; counts = refl }, (record { open_still = refl; own_answer = _; is_own = refl; settles = refl; counts = refl }, tt)),
+          (
+            record { open_still = refl; own_answer = _; is_own = refl; settles = refl; counts = refl },
+            (record { open_still = refl; own_answer = _; is_own = refl; settles = refl; counts = refl }, tt),
+          ),
         ),
       ),
     ),

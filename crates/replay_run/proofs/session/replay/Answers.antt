@@ -28,8 +28,10 @@ returns-in-Err-clause-replay g c =
     let held' = g.K.Sink.held c.take_limits.new.out in
     let ready = ap (λ reader. reader.last) c.in-Ok.ensures in
     let same = ap (λ reader. prepend_known reader.ahead told) c.in-Ok.ensures ∙ prepend_known-nil told in
-    ended-first told held held' (g.S.Source.faults c.args.session.now) (g.S.Source.faults c.take_limits.new.session) (g.K.Sink.faults c.args.out.now) (g.K.Sink.faults c.take_limits.new.out)
-    c.in-Err.ending (c.in-Err.ensures.cause ready) (subst (λ (bytes : Option (List ℕ)). EndsAt IsOpening IsOutFirst 1 bytes held held' c.in-Err.ending) same (c.in-Err.ensures.refused ready))
+    ended-first told held held' (g.S.Source.faults c.args.session.now) (g.S.Source.faults c.take_limits.new.session) (g.K.Sink.faults c.args.out.now)
+    (g.K.Sink.faults c.take_limits.new.out)
+    c.in-Err.ending (c.in-Err.ensures.cause ready) (subst (λ (bytes : Option (List ℕ)). EndsAt IsOpening IsOutFirst 1 bytes held held' c.in-Err.ending) same
+    (c.in-Err.ensures.refused ready))
 
 pub returns-in-Err-open_with-clause-replay : goal.returns-in-Err-open_with-clause-replay
 returns-in-Err-open_with-clause-replay g c =
@@ -41,7 +43,8 @@ returns-in-Err-open_with-clause-replay g c =
     let same = ap (λ reader. prepend_known reader.ahead told) c.in-Ok.ensures ∙ prepend_known-nil told in
     let limits = c.in-Ok-take_limits.limits in
     let unread = prepend_known c.take_limits.new.reader.ahead (g.S.Source.left c.take_limits.new.session) in
-    ended-cut told (g.K.Sink.held c.args.out.now) held' (g.S.Source.faults c.args.session.now) (g.S.Source.faults c.take_limits.new.session) (g.K.Sink.faults c.args.out.now) sink' limits unread held' first.0
+    ended-cut told (g.K.Sink.held c.args.out.now) held' (g.S.Source.faults c.args.session.now) (g.S.Source.faults c.take_limits.new.session)
+    (g.K.Sink.faults c.args.out.now) sink' limits unread held' first.0
     (subst (λ (bytes : Option (List ℕ)). Consumes bytes unread (line_of (events.Limits limits) ++ 10 ∷ [])) same first.3) ending
     (λ same. subst (λ out. Rose (g.K.Sink.faults out) sink') first.1 (c.in-Err-open_with.ensures.cause (ap (λ e. Err e) same)))
     (subst (λ out. IsUnwritten (group_text (opening limits)) (g.K.Sink.held out) held' ending) first.1 c.in-Err-open_with.ensures.opened)
@@ -65,5 +68,6 @@ returns-clause-replay g c =
     (subst (λ (bytes : Option (List ℕ)). Consumes bytes unread (line_of (events.Limits limits) ++ 10 ∷ [])) same first.3)
     (subst (λ out. Appends (g.K.Sink.held out) held1 (group_text (opening limits))) first.1 c.in-Ok-open_with.ensures.opened.1)
     c.follow.result source1 sink1
-    (HasCause-earlier c.follow.result source source1 source' sink sink1 sink' c.in-Ok-take_limits.ensures.source_later (omega (arith, c.in-Ok-take_limits.ensures.sink_later, c.in-Ok-open_with.ensures.later)) taken.cause)
+    (HasCause-earlier c.follow.result source source1 source' sink sink1 sink' c.in-Ok-take_limits.ensures.source_later
+    (omega (arith, c.in-Ok-take_limits.ensures.sink_later, c.in-Ok-open_with.ensures.later)) taken.cause)
     taken

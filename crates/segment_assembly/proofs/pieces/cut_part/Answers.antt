@@ -22,5 +22,6 @@ loop-k-preserved c =
 
 pub returns : goal.returns
 returns c =
-    let all = take_all c.loop-k.k (cut_spans c.args.page c.args.from c.args.len) (omega (arith, cut_length c.args.page c.args.from c.args.len, c.loop-k-test.false, c.div_ceil-k-end.ensures)) in
+    let all = take_all c.loop-k.k (cut_spans c.args.page c.args.from c.args.len)
+    (omega (arith, cut_length c.args.page c.args.from c.args.len, c.loop-k-test.false, c.div_ceil-k-end.ensures)) in
     rw (← all) c.loop-k.invariant

@@ -13,7 +13,8 @@ loop-i-preserved c =
     let i = c.loop-i.i in
     let lines : ℕ → List Event = round_lines (key c.args.number) in
     let rounds = flat_map lines (range_with_len 0 i) in (
-      c.in_ok-push_round.ensures.lines ∙ ap (λ (front : List Event). front ++ round_lines c.loop-i.words.key i) so_far.0 ∙ ap (λ (words : Drawn). first_lines ++ rounds ++ round_lines words.key i) so_far.1
+      c.in_ok-push_round.ensures.lines ∙ ap (λ (front : List Event). front ++ round_lines c.loop-i.words.key i) so_far.0 ∙ ap
+          (λ (words : Drawn). first_lines ++ rounds ++ round_lines words.key i) so_far.1
           ∙ append_assoc first_lines rounds (lines i) ∙ ap (λ (more : List Event). first_lines ++ more) (sym (flat_more lines i)),
       c.in_ok-push_round.ensures.rest ∙ ap (λ (words : Drawn). record words { count = 259 * (i + 1) }) so_far.1,
     )
@@ -21,4 +22,5 @@ loop-i-preserved c =
 pub returns : goal.returns
 returns c =
     let all : c.loop-i.i ≡ c.args.rounds = omega arith in
-    c.in_ok-push.ensures.items ∙ ap (λ (front : List Event). front ++ events.Finish ∷ []) (c.loop-i.invariant.0 ∙ ap (λ (n : ℕ). first_lines ++ flat_map (round_lines (key c.args.number)) (range_with_len 0 n)) all)
+    c.in_ok-push.ensures.items ∙ ap (λ (front : List Event). front ++ events.Finish ∷ [])
+    (c.loop-i.invariant.0 ∙ ap (λ (n : ℕ). first_lines ++ flat_map (round_lines (key c.args.number)) (range_with_len 0 n)) all)

@@ -6,4 +6,5 @@ use Rattle.session_gen.proofs.session.generate.Given as goal
 
 abbrev pub invariant-loop-i : goal.invariant-loop-i
 invariant-loop-i l =
-    (l.events.items ≡ first_lines ++ flat_map (round_lines (key l.fn.number)) (range_with_len 0 l.i)) × (l.words ≡ record { key = key l.fn.number; count = 259 * l.i })
+    (l.events.items ≡ first_lines ++ flat_map (round_lines (key l.fn.number)) (range_with_len 0 l.i))
+    × (l.words ≡ record { key = key l.fn.number; count = 259 * l.i })

@@ -7,9 +7,11 @@ use Rattle.text_fields.proofs.put.put_lines.Goals as goal
 pub returns-in-Err : goal.returns-in-Err
 returns-in-Err g c =
     each_stops (flat_map (with_feed g.A.Spell.spell)) c.loop-item.item-index c.args.items.now c.item-item.result _ _ _ _ c.in-Err.field-0
-    (flat_map-append (with_feed g.A.Spell.spell)) (append-nil (with_feed g.A.Spell.spell c.item-item.result)) c.loop-item-test.true c.item-item.is c.loop-item.invariant c.in-Err.ensures
+    (flat_map-append (with_feed g.A.Spell.spell)) (append-nil (with_feed g.A.Spell.spell c.item-item.result)) c.loop-item-test.true c.item-item.is
+    c.loop-item.invariant c.in-Err.ensures
 
 pub loop-item-preserved : goal.loop-item-preserved
 loop-item-preserved g c =
     each_more (flat_map (with_feed g.A.Spell.spell)) c.loop-item.item-index c.args.items.now c.item-item.result _ _ _ _
-    (flat_map-append (with_feed g.A.Spell.spell)) (append-nil (with_feed g.A.Spell.spell c.item-item.result)) c.loop-item-test.true c.item-item.is c.loop-item.invariant c.in-Ok.ensures
+    (flat_map-append (with_feed g.A.Spell.spell)) (append-nil (with_feed g.A.Spell.spell c.item-item.result)) c.loop-item-test.true c.item-item.is
+    c.loop-item.invariant c.in-Ok.ensures

@@ -37,7 +37,8 @@ loop-left-preserved c =
     let pushed = c.in_ok-push.ensures.ok in
     let room : left - c.min-size.result ≤ total (drop (place + 1) views) = omega (arith, so_far.room, rest, c.min-size.ensures, within) in
     record {
-      cells = rw pushed (next_cells views c.loop-left.list view _ place skip left inside c.index-view.ensures within refl refl c.min-size.ensures ∙ so_far.cells);
+      cells = rw pushed (next_cells views c.loop-left.list view _ place skip left inside c.index-view.ensures within refl refl c.min-size.ensures ∙
+          so_far.cells);
       size = rw (pushed, total_push) (omega (arith, so_far.size, c.min-size.ensures));
       room = omega (arith, room);
       within = λ some. first_some (drop (place + 1) views) (omega (arith, room, some));

@@ -29,7 +29,8 @@ overflow_sub-result c =
     let inside : c.args.off < total c.self.inside.views.items = omega (arith, c.if-off-self.false, c.self.invariant.1) in
     let some = kept_begun c.self.inside.views.items c.as_slice.result.now c.args.off c.begun-place.result kept inside c.begun-place.ensures.point in
     let is = c.index.ensures ∙ ap (λ (xs : List ℕ). get_or xs (c.begun-place.result - 1) c.index.result.now) (sym c.as_slice.ensures.value) in
-    (kept_found c.self.inside.views.items c.as_slice.result.now c.args.off c.begun-place.result kept inside c.index.result.now some c.begun-place.ensures.bound c.begun-place.ensures.point is).0
+    (kept_found c.self.inside.views.items c.as_slice.result.now c.args.off c.begun-place.result kept inside c.index.result.now some c.begun-place.ensures.bound
+    c.begun-place.ensures.point is).0
 
 pub returns : goal.returns
 returns c =
@@ -38,4 +39,5 @@ returns c =
     let some = kept_begun c.self.inside.views.items c.as_slice.result.now c.args.off c.begun-place.result kept inside c.begun-place.ensures.point in
     let is = c.index.ensures ∙ ap (λ (xs : List ℕ). get_or xs (c.begun-place.result - 1) c.index.result.now) (sym c.as_slice.ensures.value) in
     subst (λ (views : List View). IsPlaceOf views c.args.off (c.begun-place.result - 1, c.args.off - c.index.result.now)) c.self.view_is
-    (kept_found c.self.inside.views.items c.as_slice.result.now c.args.off c.begun-place.result kept inside c.index.result.now some c.begun-place.ensures.bound c.begun-place.ensures.point is).1
+    (kept_found c.self.inside.views.items c.as_slice.result.now c.args.off c.begun-place.result kept inside c.index.result.now some c.begun-place.ensures.bound
+    c.begun-place.ensures.point is).1

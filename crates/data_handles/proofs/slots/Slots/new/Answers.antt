@@ -11,7 +11,8 @@ invariant_of-result g c =
     let objects = c.args.objects.items in
     let items : into_iter_items iterator ≡ objects = search rules in
     let len : into_iter_len iterator ≡ length objects = search rules in
-    let ended = YieldsList-end (YieldsList-from_vec {s = iterator} objects items len) c.loop-object.yielded c.loop-object.object-iterator c.loop-object.yielded_by c.next.result c.next.new.self c.in-None.is c.next.ensures.steps in
+    let ended = YieldsList-end (YieldsList-from_vec {s = iterator} objects items len) c.loop-object.yielded c.loop-object.object-iterator
+    c.loop-object.yielded_by c.next.result c.next.new.self c.in-None.is c.next.ensures.steps in
     let many : length c.loop-object.yielded ≡ length objects = ended.1 in
     record {
       few = omega (arith, many, c.requires, c.loop-object.invariant.as_many, c.args.objects.ok.0);

@@ -29,7 +29,8 @@ invariant_of-self g c =
     let place = c.index_mut.result.now in
     let within = Written.held_within seen items past k c.requires.held in
     let there = Written.slot_there seen items k place c.index_mut.ensures.value within in
-    let some = Written.some_seen seen place.object (subst (λ (object : Option Handle). IsSome object) (Written.old_object seen items past k place there) c.requires.held) in
+    let some = Written.some_seen seen place.object (subst (λ (object : Option Handle). IsSome object) (Written.old_object seen items past k place there)
+    c.requires.held) in
     let none = Written.none_seen seen c.release-faults.new.self.object (ap (λ (slot : Slot). slot.object) c.release-faults.ensures.rest) in
     let gaps = Written.gaps_more items k place c.release-faults.new.self c.index_mut.ensures.value within some none in
     let fits : past ≤ 2 ^ 64 * sum_by Written.gap items = c.args.self.now.past_fits in

@@ -19,7 +19,8 @@ returns-then-is_failing-clause-failed c = λ _.
     let reserved : c.reserve.new.self ≡ record c.self.inside.log { spare = c.self.inside.log.spare + 2 } = search rules in
     let torn : List Change → List Change = λ changes. changes ++ Torn c.args.page ∷ [] in (
       ap open_in c.self.view_is ∙ c.requires.closed,
-      ap (λ (log : Record). Some log.changes) c.push.ensures ∙ ap (λ (log : Record). Some (torn log.changes)) reserved ∙ ap (λ (disk : Disk). Some (torn disk.changes)) c.self.view_is,
+      ap (λ (log : Record). Some log.changes) c.push.ensures ∙ ap (λ (log : Record). Some (torn log.changes)) reserved ∙ ap
+          (λ (disk : Disk). Some (torn disk.changes)) c.self.view_is,
       subst (λ (disk : Disk). Rose disk.faults c.saturating_add-self-inside.result) c.self.view_is (search rules),
     )
 

@@ -13,7 +13,8 @@ returns-in-None-clause-left c = rw (no_place c.args.name c.args.self.now.waiting
 
 pub invariant_of-self : goal.invariant_of-self
 invariant_of-self c =
-    let found = subst (λ (queue : Queue). Some c.in-Some.place ≡ position (λ blob. nat_eq c.args.name blob.0) queue.waiting) (sym c.self.view_is) c.in-Some.ensures in
+    let found = subst (λ (queue : Queue). Some c.in-Some.place ≡ position (λ blob. nat_eq c.args.name blob.0) queue.waiting) (sym c.self.view_is)
+    c.in-Some.ensures in
     let out = leaves c.args.name c.self.inside.waiting.items c.in-Some.place c.self.invariant.1 found in
     let within : c.in-Some.place < deque_len c.self.inside.waiting = omega (arith, c.self.inside.waiting.ok.0, out.within) in
     let some = c.remove.ensures.succeeds (0, 0) within in
@@ -22,16 +23,19 @@ invariant_of-self c =
 
 pub returns-in-Some-clause-waited : goal.returns-in-Some-clause-waited
 returns-in-Some-clause-waited c =
-    let found = subst (λ (queue : Queue). Some c.in-Some.place ≡ position (λ blob. nat_eq c.args.name blob.0) queue.waiting) (sym c.self.view_is) c.in-Some.ensures in
+    let found = subst (λ (queue : Queue). Some c.in-Some.place ≡ position (λ blob. nat_eq c.args.name blob.0) queue.waiting) (sym c.self.view_is)
+    c.in-Some.ensures in
     let out = leaves c.args.name c.self.inside.waiting.items c.in-Some.place c.self.invariant.1 found in
     subst (λ (queue : Queue). true ≡ is_waiting c.args.name queue.waiting) c.self.view_is (sym out.waited)
 
 pub returns-in-Some-clause-left : goal.returns-in-Some-clause-left
 returns-in-Some-clause-left c =
-    let found = subst (λ (queue : Queue). Some c.in-Some.place ≡ position (λ blob. nat_eq c.args.name blob.0) queue.waiting) (sym c.self.view_is) c.in-Some.ensures in
+    let found = subst (λ (queue : Queue). Some c.in-Some.place ≡ position (λ blob. nat_eq c.args.name blob.0) queue.waiting) (sym c.self.view_is)
+    c.in-Some.ensures in
     let out = leaves c.args.name c.self.inside.waiting.items c.in-Some.place c.self.invariant.1 found in
     let within : c.in-Some.place < deque_len c.self.inside.waiting = omega (arith, c.self.inside.waiting.ok.0, out.within) in
     let some = c.remove.ensures.succeeds (0, 0) within in
     let items = rw some at c.remove.ensures.items in
     let after : Queue = record { used = c.self.inside.used; limit = c.self.inside.limit; waiting = c.remove.new.self.items } in
-    subst (λ (queue : Queue). after ≡ record { used = queue.used; limit = queue.limit; waiting = without c.args.name queue.waiting }) c.self.view_is (rw (items, out.left) refl)
+    subst (λ (queue : Queue). after ≡ record { used = queue.used; limit = queue.limit; waiting = without c.args.name queue.waiting }) c.self.view_is
+    (rw (items, out.left) refl)

@@ -29,8 +29,10 @@ returns-in-Ok-clause-ends g c =
     let given : length c.read_views.new.out ≡ count = c.read_views.auto.out ∙ long in (
       count_is ∙ omega (arith, asked_count c.args.self.now views (length out) fits),
       omega (arith, c.min-count.ensures, c.if-left-eq0.false, c.requires.room),
-      subst (λ (reader : Course). record { size = c.self.inside.size; place = c.self.inside.place + count; stop = c.self.inside.stop } ≡ record reader { place = reader.place + count }) c.self.view_is refl,
-      read_asked c.args.shares.now _ _ c.args.self.now views c.as_slice.result.now out c.read_views.new.out _ count c.in-Some.first c.in-Some.skipped c.as_slice.ensures is count_is (take_at c.read_views.new.out _ count given) c.in-Ok.ensures.ok,
+      subst (λ (reader : Course). record { size = c.self.inside.size; place = c.self.inside.place + count; stop = c.self.inside.stop }
+          ≡ record reader { place = reader.place + count }) c.self.view_is refl,
+      read_asked c.args.shares.now _ _ c.args.self.now views c.as_slice.result.now out c.read_views.new.out _ count c.in-Some.first c.in-Some.skipped
+          c.as_slice.ensures is count_is (take_at c.read_views.new.out _ count given) c.in-Ok.ensures.ok,
     )
 
 pub returns-in-Err-clause-ends : goal.returns-in-Err-clause-ends
@@ -44,4 +46,5 @@ returns-in-Err-clause-ends g c =
     (reader.stop - reader.place) (length out)) c.self.view_is (omega (arith, c.min-count.ensures)) in
     rw c.end.ensures
     (stops_end c.args.shares.now views (length out) c.args.self.now _ _ _ c.in-Err.stop.view c.in-Err.stop.fault
-    (stops_asked c.args.shares.now _ _ c.args.self.now views c.as_slice.result.now out count c.in-Some.first c.in-Some.skipped c.in-Err.stop.view c.in-Err.stop.fault c.as_slice.ensures is count_is c.in-Err.ensures.err))
+    (stops_asked c.args.shares.now _ _ c.args.self.now views c.as_slice.result.now out count c.in-Some.first c.in-Some.skipped c.in-Err.stop.view
+    c.in-Err.stop.fault c.as_slice.ensures is count_is c.in-Err.ensures.err))

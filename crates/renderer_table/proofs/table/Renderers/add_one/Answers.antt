@@ -17,4 +17,5 @@ returns-clause-changes c =
     let new : Table = table c.add_at.new.living.entries in
     let alive : IsSome (living_of id old) = subst (λ (table : Table). IsSome (living_of id table)) (sym c.self.view_is) c.requires.alive in
     subst (λ (old : Table). OnOk c.add_at.result (ChangesCount (λ count. count + 1) id blob old new)) c.self.view_is
-    (on_ok c.add_at.result (λ is. counts_written (λ count. count + 1) id blob (one_more blob (counts_of id old)) old new alive (more blob (counts_of id old)) (ap table is)) c.add_at.ensures.ok)
+    (on_ok c.add_at.result (λ is. counts_written (λ count. count + 1) id blob (one_more blob (counts_of id old)) old new alive (more blob (counts_of id old))
+    (ap table is)) c.add_at.ensures.ok)

@@ -19,4 +19,5 @@ returns-clause-changes c =
     let alive : IsSome (living_of id old) = subst (λ (table : Table). IsSome (living_of id table)) (sym c.self.view_is) lives in
     let held : 0 < count_of id blob old = subst (λ (table : Table). 0 < count_of id blob table) (sym c.self.view_is) some in
     subst (λ (old : Table). ChangesCount (λ count. count - 1) id blob old new) c.self.view_is
-    (counts_written (λ count. count - 1) id blob (one_fewer blob (counts_of id old)) old new alive (fewer blob (counts_of id old) c.drop_at.ensures.ordered held) (ap table c.drop_at.ensures.fewer))
+    (counts_written (λ count. count - 1) id blob (one_fewer blob (counts_of id old)) old new alive
+    (fewer blob (counts_of id old) c.drop_at.ensures.ordered held) (ap table c.drop_at.ensures.fewer))

@@ -15,7 +15,8 @@ returns-in-Over-clause-taken g c l rests ready =
     let sink' = g.K.Sink.faults c.take_turn.new.out in
     going-over l _ _ _ _ _ _ _ c.take_turn.new.store c.loop-number.number going source source' sink sink'
     (omega (arith, c.loop-number-test.true)) c.in-Over.ending
-    (HasCause-earlier c.in-Over.ending source (g.S.Source.faults c.loop-number.session) source' sink (g.K.Sink.faults c.loop-number.out) sink' c.loop-number.invariant.source c.loop-number.invariant.sink (c.in-Over.ensures.cause kept.0))
+    (HasCause-earlier c.in-Over.ending source (g.S.Source.faults c.loop-number.session) source' sink (g.K.Sink.faults c.loop-number.out) sink'
+    c.loop-number.invariant.source c.loop-number.invariant.sink (c.in-Over.ensures.cause kept.0))
     (c.in-Over.ensures.turned l (history_from start going.groups) going.rests kept.0)
 
 pub loop-number-preserved : goal.loop-number-preserved
@@ -36,7 +37,9 @@ returns-clause-taken g c l rests ready =
     let source' = g.S.Source.faults c.past_lines.new.session in
     let sink = g.K.Sink.faults c.args.out.now in
     let sink' = g.K.Sink.faults c.past_lines.new.out in
-    going-past l _ _ (prepend_known c.past_lines.new.reader.ahead (g.S.Source.left c.past_lines.new.session)) _ _ _ _ c.loop-number.store c.loop-number.number kept.1 source source' sink sink'
+    going-past l _ _ (prepend_known c.past_lines.new.reader.ahead (g.S.Source.left c.past_lines.new.session)) _ _ _ _ c.loop-number.store c.loop-number.number
+    kept.1 source source' sink sink'
     (omega (arith, c.loop-number-test.false, c.loop-number.auto.number-end)) c.past_lines.result
-    (HasCause-earlier c.past_lines.result source (g.S.Source.faults c.loop-number.session) source' sink (g.K.Sink.faults c.loop-number.out) sink' c.loop-number.invariant.source c.loop-number.invariant.sink (c.past_lines.ensures.cause kept.0))
+    (HasCause-earlier c.past_lines.result source (g.S.Source.faults c.loop-number.session) source' sink (g.K.Sink.faults c.loop-number.out) sink'
+    c.loop-number.invariant.source c.loop-number.invariant.sink (c.past_lines.ensures.cause kept.0))
     (c.past_lines.ensures.ends kept.0)

@@ -15,5 +15,6 @@ invariant-loop-number g l = record {
   empty : l.buffer ≡ [];
   going : (limits : Limits) → Rests limits l.fn.store start → l.fn.reader.last ≡ steps.Line
       → (l.reader.last ≡ steps.Line)
-      × Going limits (prepend_known l.fn.reader.ahead (g.S.Source.left l.fn.session)) (prepend_known l.reader.ahead (g.S.Source.left l.session)) (g.K.Sink.held l.fn.out) (g.K.Sink.held l.out) l.store l.number;
+      × Going limits (prepend_known l.fn.reader.ahead (g.S.Source.left l.fn.session)) (prepend_known l.reader.ahead (g.S.Source.left l.session))
+      (g.K.Sink.held l.fn.out) (g.K.Sink.held l.out) l.store l.number;
 }

@@ -21,7 +21,8 @@ use Rattle.replay_run.proofs.TurnLemmas.{bad-fault, begins, ends-fault, ends-ref
 use Rattle.replay_run.proofs.session.line.answer_line.Goals as goal
 
 -- a line that isn't built has no own answer
-unbuilt_here : (l : Limits) (h : History) (event : Event) (s : Store) (fault : ApplyFault) → Applies l h event s (Err fault) → fault ≡ faults.Unbuilt → own l h event ≡ None
+unbuilt_here : (l : Limits) (h : History) (event : Event) (s : Store) (fault : ApplyFault) → Applies l h event s (Err fault) → fault ≡ faults.Unbuilt
+    → own l h event ≡ None
 unbuilt_here l h event s fault applies is = subst (λ (why : ApplyFault). Applies l h event s (Err why)) is applies
 
 pub returns-in-Err-clause-turned : goal.returns-in-Err-clause-turned
@@ -31,7 +32,8 @@ returns-in-Err-clause-turned g c l h unread unread' rests short clear taken =
     turned-ends l h c.args.number unread unread' held held' c.args.store.now c.refuse_fault.result
     (
     ends-fault (IsLegalGroup l h) (IsOutAt l h) c.args.number unread held held' _ c.refuse_fault.result
-    (λ reason is. bad-fault (λ event. ⊥) (λ event. own l h event ≡ None) unread unread' c.args.line.now c.in-Err.fault reason is taken short clear c.in-Err.ensures.read) c.refuse_fault.ensures.ends
+    (λ reason is. bad-fault (λ event. ⊥) (λ event. own l h event ≡ None) unread unread' c.args.line.now c.in-Err.fault reason is taken short clear
+    c.in-Err.ensures.read) c.refuse_fault.ensures.ends
     )
 
 pub returns-in-Err-Unbuilt-clause-turned : goal.returns-in-Err-Unbuilt-clause-turned
@@ -40,7 +42,8 @@ returns-in-Err-Unbuilt-clause-turned g c l h unread unread' rests short clear ta
     let held' = g.K.Sink.held c.refuse.new.out in
     let event = c.in-Ok.event in
     let fits = c.in-Ok.ensures.read in
-    let unbuilt : own l h event ≡ None = unbuilt_here l h event c.apply.new.self c.in-Err-Unbuilt.field-0 (c.in-Err-Unbuilt.ensures l h rests) c.in-Err-Unbuilt.field-0-is in
+    let unbuilt : own l h event ≡ None = unbuilt_here l h event c.apply.new.self c.in-Err-Unbuilt.field-0 (c.in-Err-Unbuilt.ensures l h rests)
+    c.in-Err-Unbuilt.field-0-is in
     turned-ends l h c.args.number unread unread' held held' c.apply.new.self c.refuse.result
     (
     ends-refused (IsLegalGroup l h) (IsOutAt l h) c.args.number unread held held' reasons.Unbuilt c.refuse.result
@@ -51,7 +54,8 @@ returns-in-Err-Unbuilt-clause-turned g c l h unread unread' rests short clear ta
     c.refuse.ensures.refusal
     )
 
-module _ (l : Limits) (h : History) (unread unread' held held' : Option (List ℕ)) (line : List ℕ) (event : Event) (group : Group) (s : Store) (short : length line ≤ 2 ^ 20) (taken : Consumes unread unread' (line ++ 10 ∷ [])) (fits : HasSpelling event)
+module _ (l : Limits) (h : History) (unread unread' held held' : Option (List ℕ)) (line : List ℕ) (event : Event) (group : Group) (s : Store)
+    (short : length line ≤ 2 ^ 20) (taken : Consumes unread unread' (line ++ 10 ∷ [])) (fits : HasSpelling event)
     (spelled : line ≡ line_of event) (applied : Applies l h event s (Ok group)) where
   same : line ≡ line_of group.event
   same = spelled ∙ ap line_of (sym applied.0)
@@ -82,15 +86,20 @@ returns-in-Err-stream_group_through-clause-turned g c l h unread unread' rests s
     let cut = c.in-Err-stream_group_through.ensures.streamed in
     let group = c.in-Ok-apply.group in
     let held = g.K.Sink.held c.args.out.now in
-    let held' = g.K.Sink.held c.stream_group_through.new.out in
-    (take cut.0 (group_text group), cut.2, cut_off l h unread unread' held held' c.args.line.now c.in-Ok.event group c.apply.new.self short taken fits.0 fits.1 (c.in-Ok-apply.ensures l h rests) c.args.number cut.0 cut.1)
+    let held' = g.K.Sink.held c.stream_group_through.new.out in (
+      take cut.0 (group_text group),
+      cut.2,
+      cut_off l h unread unread' held held' c.args.line.now c.in-Ok.event group c.apply.new.self short taken fits.0 fits.1
+          (c.in-Ok-apply.ensures l h rests) c.args.number cut.0 cut.1,
+    )
 
 pub returns-then-has_ended-clause-turned : goal.returns-then-has_ended-clause-turned
 returns-then-has_ended-clause-turned g c l h unread unread' rests short clear taken =
     let fits = c.in-Ok.ensures.read in
     let applied = c.in-Ok-apply.ensures l h rests in
     let group = c.in-Ok-apply.group in (
-      is_taken l h unread unread' (g.K.Sink.held c.args.out.now) (g.K.Sink.held c.stream_group_through.new.out) c.args.line.now c.in-Ok.event group c.apply.new.self short taken fits.0 fits.1 applied c.in-Ok-stream_group_through.ensures.streamed.0,
+      is_taken l h unread unread' (g.K.Sink.held c.args.out.now) (g.K.Sink.held c.stream_group_through.new.out) c.args.line.now c.in-Ok.event group
+          c.apply.new.self short taken fits.0 fits.1 applied c.in-Ok-stream_group_through.ensures.streamed.0,
       sym (c.has_ended.ensures l (after h group.event group.answers) applied.2) ∙ c.if-has_ended.true,
     )
 
@@ -99,6 +108,7 @@ returns-clause-turned g c l h unread unread' rests short clear taken =
     let fits = c.in-Ok.ensures.read in
     let applied = c.in-Ok-apply.ensures l h rests in
     let group = c.in-Ok-apply.group in (
-      is_taken l h unread unread' (g.K.Sink.held c.args.out.now) (g.K.Sink.held c.stream_group_through.new.out) c.args.line.now c.in-Ok.event group c.apply.new.self short taken fits.0 fits.1 applied c.in-Ok-stream_group_through.ensures.streamed.0,
+      is_taken l h unread unread' (g.K.Sink.held c.args.out.now) (g.K.Sink.held c.stream_group_through.new.out) c.args.line.now c.in-Ok.event group
+          c.apply.new.self short taken fits.0 fits.1 applied c.in-Ok-stream_group_through.ensures.streamed.0,
       sym (c.has_ended.ensures l (after h group.event group.answers) applied.2) ∙ c.if-has_ended.false,
     )

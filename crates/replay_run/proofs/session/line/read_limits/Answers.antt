@@ -13,7 +13,8 @@ returns-in-Err-clause-refused g c unread unread' short clear taken =
     ends-fault IsOpening IsOutFirst 1 unread (g.K.Sink.held c.args.out.now) (g.K.Sink.held c.refuse_fault.new.out) _ c.refuse_fault.result
     (
     λ reason is.
-    bad-fault (λ event. states_limits event ≡ false) (λ event. (states_limits event ≡ true) × (limits_of event ≡ None)) unread unread' c.args.line.now c.in-Err.fault reason is taken short clear
+    bad-fault (λ event. states_limits event ≡ false) (λ event. (states_limits event ≡ true) × (limits_of event ≡ None)) unread unread' c.args.line.now
+    c.in-Err.fault reason is taken short clear
     c.in-Err.ensures.read
     )
     c.refuse_fault.ensures.ends
@@ -24,7 +25,8 @@ returns-then-not-states_limits-clause-refused g c unread unread' short clear tak
     let fits = c.in-Ok.ensures.read in
     ends-refused IsOpening IsOutFirst 1 unread (g.K.Sink.held c.args.out.now) (g.K.Sink.held c.refuse.new.out) reasons.First c.refuse.result
     (
-    with_event (λ one. states_limits one ≡ false) unread unread' c.args.line.now event taken (fits.0, subst (λ (line : List ℕ). length line ≤ 2 ^ 20) fits.1 short) fits.1
+    with_event (λ one. states_limits one ≡ false) unread unread' c.args.line.now event taken
+    (fits.0, subst (λ (line : List ℕ). length line ≤ 2 ^ 20) fits.1 short) fits.1
     (sym c.states_limits.ensures ∙ c.if-not-states_limits.true)
     )
     c.refuse.ensures.refusal
@@ -35,7 +37,8 @@ returns-in-None-clause-refused g c unread unread' short clear taken =
     let fits = c.in-Ok.ensures.read in
     ends-refused IsOpening IsOutFirst 1 unread (g.K.Sink.held c.args.out.now) (g.K.Sink.held c.refuse-in-None.new.out) reasons.Unbuilt c.refuse-in-None.result
     (
-    with_event (λ one. (states_limits one ≡ true) × (limits_of one ≡ None)) unread unread' c.args.line.now event taken (fits.0, subst (λ (line : List ℕ). length line ≤ 2 ^ 20) fits.1 short) fits.1
+    with_event (λ one. (states_limits one ≡ true) × (limits_of one ≡ None)) unread unread' c.args.line.now event taken
+    (fits.0, subst (λ (line : List ℕ). length line ≤ 2 ^ 20) fits.1 short) fits.1
     (sym c.states_limits.ensures ∙ c.if-not-states_limits.false, sym c.limits_of.ensures ∙ c.in-None.is)
     )
     c.refuse-in-None.ensures.refusal

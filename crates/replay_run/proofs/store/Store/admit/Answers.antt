@@ -17,10 +17,11 @@ use Rattle.replay_run.specs.Stands.{Stands}
 use Rattle.replay_run.proofs.PieceLemmas.{pieces_from-length}
 use Rattle.replay_run.proofs.OwnLemmas.{build-pieces, build-plan}
 use Rattle.replay_run.proofs.store.Store.admit.Goals as goal
+use Rattle.blob_model.specs.Session.{page_limit}
 
 -- the pieces that there would be
 all_pieces : (l : Limits) (s : Store) (h : History) (name : ℕ) (parts : List Part) → Stands l s h
-    → length (pieces l h) + length (build_pieces l.page (record { name = name; parts = parts })) ≡ s.shelf.pieces + piece_total s.limits.page parts
+    → length (pieces l h) + length (build_pieces l.page (record { name = name; parts = parts })) ≡ s.shelf.pieces + piece_total (page_limit s) parts
 all_pieces l s h name parts stands =
     ap (λ n. n + length (build_pieces l.page (record { name = name; parts = parts }))) (sym stands.same_pieces)
     ∙ ap (λ n. s.shelf.pieces + n) (pieces_from-length l.page name 0 parts)
@@ -30,7 +31,8 @@ all_pieces l s h name parts stands =
 plan_by : (l : Limits) (s : Store) (h : History) (parts : List Part) (counted : Tally) (size : ℕ) → Stands l s h → counted ≡ tally l h → size ≡ byte_total parts
     → plan_for s.limits counted.memory size ≡ plan_for l (memory l h) (length (flat_map part_bytes parts))
 plan_by l s h parts counted size stands same sized =
-    ap (λ (each : Limits). plan_for each counted.memory size) stands.same_limits ∙ ap (λ (each : Tally). plan_for l each.memory size) same ∙ ap (plan_for l (memory l h)) sized
+    ap (λ (each : Limits). plan_for each counted.memory size) stands.same_limits ∙ ap (λ (each : Tally). plan_for l each.memory size) same ∙ ap
+    (plan_for l (memory l h)) sized
 
 pub returns-then-from-measure-gt65536-clause-plan : goal.returns-then-from-measure-gt65536-clause-plan
 returns-then-from-measure-gt65536-clause-plan c l h renderer stands spawned =
@@ -49,5 +51,6 @@ returns-clause-plan c l h renderer stands spawned =
     (omega (arith, all_pieces l s h c.args.name c.args.parts.now stands, c.in_ok-measure.ensures.2, c.pieces.ensures.pieces, c.from.ensures))
     ∙ ap (option_map answers.Planned)
     (
-    sym (plan_by l s h c.args.parts.now c.tally-memory.result c.in_ok-measure.measure.size stands (c.tally-memory.ensures.model l h stands) c.in_ok-measure.ensures.0) ∙ sym c.in_ok-plan.ensures
+    sym (plan_by l s h c.args.parts.now c.tally-memory.result c.in_ok-measure.measure.size stands (c.tally-memory.ensures.model l h stands)
+    c.in_ok-measure.ensures.0) ∙ sym c.in_ok-plan.ensures
     )

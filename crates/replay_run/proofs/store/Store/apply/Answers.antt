@@ -11,7 +11,8 @@ use Rattle.replay_run.proofs.store.Store.apply.Goals as goal
 pub returns : goal.returns
 returns c l h rests =
     let answered = c.in_ok-answer.ensures l h rests.stands in
-    let group = applied l h c.args.event c.answer.new.self c.in_ok-answer.answer c.finished_by-done.result c.tally.result rests.nothing_owed rests.open_still answered.0 answered.1
+    let group = applied l h c.args.event c.answer.new.self c.in_ok-answer.answer c.finished_by-done.result c.tally.result rests.nothing_owed rests.open_still
+    answered.0 answered.1
     c.finished_by-done.ensures (λ later stands. c.tally.ensures.model l later stands) in
     let listed = sym c.in_ok-answers.ensures.answers in (
       refl,

@@ -16,12 +16,15 @@ chosen {X} {b} x y holds = ap (λ (test : Bool). if test then x else y) holds
 pub returns-in_default : goal.returns-in_default
 returns-in_default c l h kind stands plain =
     let spawned : is_spawned h c.args.renderer.0 ≡ true = sym (c.is_spawned.ensures l h stands) ∙ c.if-not-is_spawned.false in
-    chosen (own_build l h c.args.renderer c.args.name c.args.parts.now) None plain ∙ ap (own_build l h c.args.renderer c.args.name) (sym c.as_slice.ensures) ∙ c.in_default.ensures.plan l h c.args.renderer stands spawned
+    chosen (own_build l h c.args.renderer c.args.name c.args.parts.now) None plain ∙ ap (own_build l h c.args.renderer c.args.name) (sym c.as_slice.ensures) ∙
+    c.in_default.ensures.plan l h c.args.renderer stands spawned
 
 pub returns : goal.returns
 returns c l h kind stands plain =
     let spawned : is_spawned h c.args.renderer.0 ≡ true = sym (c.is_spawned.ensures l h stands) ∙ c.if-not-is_spawned.false in (
-      chosen (own_build l h c.args.renderer c.args.name c.args.parts.now) None plain ∙ ap (own_build l h c.args.renderer c.args.name) (sym c.as_slice.ensures) ∙ c.in-Some.ensures.plan l h c.args.renderer stands spawned,
-      subst (λ (parts : List Part). Stands l c.keep.new.self (heard h (events.Build c.args.renderer c.args.name kind parts) (answers.Planned c.in-Some.admitted.plan))) c.as_slice-2.ensures
+      chosen (own_build l h c.args.renderer c.args.name c.args.parts.now) None plain ∙ ap (own_build l h c.args.renderer c.args.name) (sym c.as_slice.ensures) ∙
+          c.in-Some.ensures.plan l h c.args.renderer stands spawned,
+      subst (λ (parts : List Part). Stands l c.keep.new.self (heard h (events.Build c.args.renderer c.args.name kind parts)
+          (answers.Planned c.in-Some.admitted.plan))) c.as_slice-2.ensures
           (c.in_ok-keep.ensures.ok l h kind stands (c.in-Some.ensures.new l h stands)),
     )

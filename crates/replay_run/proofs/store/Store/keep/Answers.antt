@@ -19,7 +19,11 @@ returns-clause-ok c l h kind stands new =
     c.in_ok-insert.ensures.keys ∙ ap (λ b. cond b s.names.keys (s.names.keys ++ c.number-number.result ∷ [])) free in
     let counted = c.requires.counted ∙ ap (λ (each : Limits). piece_total each.page c.args.parts.now) stands.same_limits in
     let with : List ℕ → ℕ → Shelved = λ bytes pieces.
-    record { blobs = s.shelf.blobs ++ record { name = c.args.name; holder = Some c.args.renderer; bytes = bytes; pieces = pieces } ∷ []; pieces = s.shelf.pieces + pieces } in
+    record {
+      blobs = s.shelf.blobs ++ record { name = c.args.name; holder = Some c.args.renderer; bytes = bytes; pieces = pieces } ∷ [];
+      pieces = s.shelf.pieces
+          + pieces;
+    } in
     kept-build l s h c.args.renderer c.args.name kind c.args.parts.now c.args.admitted.plan stands new c.insert.new.self c.push.new.self
     (keys ∙ ap (λ n. s.names.keys ++ n ∷ []) c.number-number.ensures)
     (c.in_ok-push.ensures.ok ∙ ap (λ bytes. with bytes c.args.admitted.pieces) c.in_ok-bytes.ensures ∙ ap (with (flat_map part_bytes c.args.parts.now)) counted)

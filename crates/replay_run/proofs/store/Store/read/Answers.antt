@@ -20,11 +20,14 @@ returns c l h stands =
     let reader = c.in-Some.ensures.reader l h stands alive in
     let unused = read-free h c.args.renderer c.args.name spawned c.args.number c.args.off c.args.len reader.0 in
     let inside = read-inside h c.args.renderer c.args.name spawned c.args.number c.args.off c.args.len reader.0 in
-    let fits : range_end c.size_of-size.result c.args.off c.args.len ≤ size_of h c.args.name = subst (λ (n : ℕ). range_end n c.args.off c.args.len ≤ size_of h c.args.name) (sym size) inside in
-    let new = reader.1 ∙ ap (λ (n : ℕ). record { number = c.args.number; blob = c.args.name; place = c.args.off; end = range_end n c.args.off c.args.len }) (sym size) in (
+    let fits : range_end c.size_of-size.result c.args.off c.args.len ≤ size_of h c.args.name =
+    subst (λ (n : ℕ). range_end n c.args.off c.args.len ≤ size_of h c.args.name) (sym size) inside in
+    let new = reader.1 ∙ ap (λ (n : ℕ). record { number = c.args.number; blob = c.args.name; place = c.args.off; end = range_end n c.args.off c.args.len })
+    (sym size) in (
       read-opened h c.args.renderer c.args.name spawned c.args.number c.args.off c.args.len holds reader.0
           ∙ ap (λ (n : ℕ). Some (answers.Opened c.args.number n [])) (sym size)
           ∙ ap (λ (kind : List ℕ). Some (answers.Opened c.args.number c.size_of-size.result kind)) (sym c.new.ensures),
-      kept-opened l s h c.args.renderer c.args.number c.args.name c.args.off c.args.len c.size_of-size.result c.new.result stands alive unused fits c.push.new.self
+      kept-opened l s h c.args.renderer c.args.number c.args.name c.args.off c.args.len c.size_of-size.result c.new.result stands alive unused fits
+          c.push.new.self
           (c.in_ok-push.ensures.ok ∙ ap (λ (each : Reader). s.readers ++ each ∷ []) new),
     )

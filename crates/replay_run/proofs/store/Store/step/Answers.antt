@@ -48,7 +48,8 @@ returns c l h stands =
     let count : c.min-count.result ≡ min (left found.0) s.limits.chunk = c.min-count.ensures ∙ ap (λ n. min n s.limits.chunk) (sym same) in
     let asked = bytes_in (blob_at s.shelf.blobs found.0.blob) in
     let given : c.in_ok-bytes.bytes ≡ take c.min-count.result (drop found.0.place asked) =
-    c.in_ok-bytes.ensures.bytes ∙ ap (λ (each : Reader). take c.min-count.result (drop each.place (bytes_in (blob_at s.shelf.blobs each.blob)))) (sym found.2) in
+    c.in_ok-bytes.ensures.bytes ∙ ap (λ (each : Reader). take c.min-count.result (drop each.place (bytes_in (blob_at s.shelf.blobs each.blob)))) (sym found.2)
+    in
     let many : length c.in_ok-bytes.bytes ≡ c.min-count.result =
     ap length given ∙ chunk-length l s h c.args.number stands found.0 found.1 alive c.min-count.result (omega (arith, count)) in
     let place = c.place_after.ensures ∙ ap (λ (each : Reader). each.place + c.min-count.result) (sym found.2) ∙ ap (λ n. found.0.place + n) (sym many) in (

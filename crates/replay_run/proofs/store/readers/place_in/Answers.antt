@@ -8,4 +8,5 @@ pub loop-reader-preserved : goal.loop-reader-preserved
 loop-reader-preserved c =
     let original = c.args.open.now.items in
     let within : c.loop-reader.reader-index < length original = omega (arith, ap length c.deref_mut-reader-items.ensures.value) in
-    mapped_front-step (placed c.args.number c.args.place) c.loop-reader.reader-index original c.loop-reader.reader-items c.reader-item.result _ c.loop-reader.invariant within c.place_after-reader.ensures
+    mapped_front-step (placed c.args.number c.args.place) c.loop-reader.reader-index original c.loop-reader.reader-items c.reader-item.result _
+    c.loop-reader.invariant within c.place_after-reader.ensures

@@ -28,7 +28,8 @@ returns-then-len-want-clause-value c =
     let inside = c.self.inside in
     let place : c.args.seg < length inside.came.items = omega (arith, c.len.ensures, inside.came.ok.0, c.if-place-len.false) in
     let came = get_or_read inside.came.items c.args.seg c.index.result.now place c.index.ensures false in
-    let want : c.min-want.result ≡ min inside.segment (sum inside.parts.items - c.args.seg * inside.segment) = rw (← c.self.invariant.own, ← c.from.ensures) c.min-want.ensures in
+    let want : c.min-want.result ≡ min inside.segment (sum inside.parts.items - c.args.seg * inside.segment) = rw (← c.self.invariant.own, ← c.from.ensures)
+    c.min-want.ensures in
     subst (λ (sending : Sending). None ≡ segment_fault sending c.args.seg c.args.len) c.self.view_is
     (fits_is inside c.args.seg c.args.len c.min-want.result place (sym came ∙ c.if-index.false) want c.if-len-want.true)
 
@@ -37,7 +38,8 @@ returns-then-len-want-clause-none c =
     let inside = c.self.inside in
     let place : c.args.seg < length inside.came.items = omega (arith, c.len.ensures, inside.came.ok.0, c.if-place-len.false) in
     let came = get_or_read inside.came.items c.args.seg c.index.result.now place c.index.ensures false in
-    let want : c.min-want.result ≡ min inside.segment (sum inside.parts.items - c.args.seg * inside.segment) = rw (← c.self.invariant.own, ← c.from.ensures) c.min-want.ensures in
+    let want : c.min-want.result ≡ min inside.segment (sum inside.parts.items - c.args.seg * inside.segment) = rw (← c.self.invariant.own, ← c.from.ensures)
+    c.min-want.ensures in
     subst (λ (sending : Sending). CanTake sending c.args.seg c.args.len) c.self.view_is (
       rw (length_slots inside.segment inside.came.items inside.bytes.items) place,
       came_at inside.segment c.args.seg inside.came.items inside.bytes.items ∙ (sym came ∙ c.if-index.false),
@@ -49,6 +51,7 @@ returns-else-len-want-clause-value c =
     let inside = c.self.inside in
     let place : c.args.seg < length inside.came.items = omega (arith, c.len.ensures, inside.came.ok.0, c.if-place-len.false) in
     let came = get_or_read inside.came.items c.args.seg c.index.result.now place c.index.ensures false in
-    let want : c.min-want.result ≡ min inside.segment (sum inside.parts.items - c.args.seg * inside.segment) = rw (← c.self.invariant.own, ← c.from.ensures) c.min-want.ensures in
+    let want : c.min-want.result ≡ min inside.segment (sum inside.parts.items - c.args.seg * inside.segment) = rw (← c.self.invariant.own, ← c.from.ensures)
+    c.min-want.ensures in
     subst (λ (sending : Sending). Some (Length c.min-want.result) ≡ segment_fault sending c.args.seg c.args.len) c.self.view_is
     (length_is inside c.args.seg c.args.len c.min-want.result place (sym came ∙ c.if-index.false) want c.if-len-want.false)

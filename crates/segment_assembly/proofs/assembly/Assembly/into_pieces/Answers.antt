@@ -21,7 +21,8 @@ returns-clause-pieces c =
     all_slots inside.segment inside.came.items inside.bytes.items short (sym (count_slots inside.segment inside.came.items inside.bytes.items) ∙ none) in
     let cut = rw (c.as_slice.ensures.value, c.as_slice-2.ensures.value) at c.cut_parts.ensures in
     subst (λ (sending : Sending). IfOk c.cut_parts.result (λ pieces. pieces.items ≡ pieces_of sending)) c.self.view_is
-    (subst (λ (bytes : List ℕ). IfOk c.cut_parts.result (λ pieces. pieces.items ≡ map (bytes_at bytes) (piece_spans inside.page 0 inside.parts.items))) (sym all) cut)
+    (subst (λ (bytes : List ℕ). IfOk c.cut_parts.result (λ pieces. pieces.items ≡ map (bytes_at bytes) (piece_spans inside.page 0 inside.parts.items)))
+    (sym all) cut)
 
 pub returns-clause-segments : goal.returns-clause-segments
 returns-clause-segments c = subst AreSegments c.self.view_is (are_segments c.self.inside c.self.invariant)

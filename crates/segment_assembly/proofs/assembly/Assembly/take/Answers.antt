@@ -47,5 +47,6 @@ returns-clause-ok c =
     let inside = c.self.inside in
     let items = with_items_is inside.bytes c.write_at.new.buffer (omega (arith, c.write_at.auto.buffer, c.as_mut_slice.ensures.len)) in
     let start = ap (λ (n : ℕ). n * inside.segment) c.from.ensures in
-    let write = write_slot inside.segment c.args.seg inside.came.items c.args.bytes.now inside.bytes.items is_ready.place (omega (arith, is_ready.start)) is_ready.size in
+    let write = write_slot inside.segment c.args.seg inside.came.items c.args.bytes.now inside.bytes.items is_ready.place (omega (arith, is_ready.start))
+    is_ready.size in
     rw (← c.self.view_is, items, c.write_at.ensures, start, c.as_mut_slice.ensures.value, write) refl

@@ -42,4 +42,5 @@ returns-else-not-decode_into c =
     let decoded = c.decode_into.ensures.decoded c.if-not-decode_into.false in
     let bytes : List ℕ = c.decode_into.new.out in
     let whole = take_at bytes (drop (length bytes) c.in-Ok.bytes.items) c.in-Ok.bytes.len (omega arith) in
-    rw c.from_vec.ensures (subst (λ (all : List ℕ). IsBytes all × (c.args.text.now ≡ hex_text all)) (sym whole) (text_of_read c.args.text.now bytes some spelled decoded))
+    rw c.from_vec.ensures (subst (λ (all : List ℕ). IsBytes all × (c.args.text.now ≡ hex_text all)) (sym whole)
+    (text_of_read c.args.text.now bytes some spelled decoded))

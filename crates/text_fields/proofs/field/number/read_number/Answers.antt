@@ -9,12 +9,18 @@ use Rattle.text_fields.proofs.Numbers.{decimal_from_plain, plain_decimal}
 use Rattle.text_fields.proofs.field.number.read_number.Goals as goal
 
 pub returns-then-not-is_plain_number : goal.returns-then-not-is_plain_number
-returns-then-not-is_plain_number c =
-    (λ (s : Spells number_64 c.args.text.now). both_ways _ c.if-not-is_plain_number.true (c.is_plain_number.ensures ∙ ap is_plain_number s.2 ∙ plain_decimal s.0 s.1), refl)
+returns-then-not-is_plain_number c = (
+  λ (s : Spells number_64 c.args.text.now). both_ways _ c.if-not-is_plain_number.true
+      (c.is_plain_number.ensures ∙ ap is_plain_number s.2 ∙ plain_decimal s.0 s.1),
+  refl,
+)
 
 pub returns-in_default : goal.returns-in_default
-returns-in_default c =
-    (λ (s : Spells number_64 c.args.text.now). c.in_default.ensures.cases.0 (subst IsUtf8 (sym s.2) (IsUtf8-from_ascii (decimal s.0) (IsAscii-decimal s.0 s.1))), refl)
+returns-in_default c = (
+  λ (s : Spells number_64 c.args.text.now). c.in_default.ensures.cases.0
+      (subst IsUtf8 (sym s.2) (IsUtf8-from_ascii (decimal s.0) (IsAscii-decimal s.0 s.1))),
+  refl,
+)
 
 pub returns-in-Ok-parse : goal.returns-in-Ok-parse
 returns-in-Ok-parse c =

@@ -13,7 +13,8 @@ returns-then-is_err-clause-err c =
     let absent : url_at text urls ≡ None = subst (λ (urls : List (List ℕ × Url)). url_at text urls ≡ None) (sym c.self.view_is) c.requires.absent in
     let key = c.in_ok-key.ensures.items ∙ c.as_slice.ensures.bytes in
     let inserted : c.insert.new.self ≡ with_url text c.args.url urls = c.in_ok-insert.ensures.ok ∙ ap (λ key. with_url key c.args.url urls) key in
-    c.remove.ensures.rest ∙ ap (λ one. without one c.insert.new.self) c.as_slice-then-is_err.ensures.bytes ∙ ap (without text) inserted ∙ removed_inserted text c.args.url urls absent ∙ c.self.view_is
+    c.remove.ensures.rest ∙ ap (λ one. without one c.insert.new.self) c.as_slice-then-is_err.ensures.bytes ∙ ap (without text) inserted ∙ removed_inserted text
+    c.args.url urls absent ∙ c.self.view_is
 
 pub invariant_of-self-then-is_err : goal.invariant_of-self-then-is_err
 invariant_of-self-then-is_err c =
@@ -22,9 +23,13 @@ invariant_of-self-then-is_err c =
     let absent : url_at text urls ≡ None = subst (λ (urls : List (List ℕ × Url)). url_at text urls ≡ None) (sym c.self.view_is) c.requires.absent in
     let key = c.in_ok-key.ensures.items ∙ c.as_slice.ensures.bytes in
     let inserted : c.insert.new.self ≡ with_url text c.args.url urls = c.in_ok-insert.ensures.ok ∙ ap (λ key. with_url key c.args.url urls) key in
-    let same : c.remove.new.self ≡ urls = c.remove.ensures.rest ∙ ap (λ one. without one c.insert.new.self) c.as_slice-then-is_err.ensures.bytes ∙ ap (without text) inserted ∙ removed_inserted text c.args.url urls absent in
-    let stays = on_fault c.put_text.result c.if-is_err.ensures.value c.put_text.ensures.err in
-    (λ owner. stays owner ∙ c.self.invariant.0 owner ∙ ap (texts_of owner) (sym same), subst (λ (urls : List (List ℕ × Url)). length urls ≤ 16384) (sym same) c.self.invariant.1)
+    let same : c.remove.new.self ≡ urls = c.remove.ensures.rest ∙ ap (λ one. without one c.insert.new.self) c.as_slice-then-is_err.ensures.bytes ∙ ap
+    (without text) inserted ∙ removed_inserted text c.args.url urls absent in
+    let stays = on_fault c.put_text.result c.if-is_err.ensures.value c.put_text.ensures.err in (
+      λ owner. stays owner ∙ c.self.invariant.0 owner ∙ ap (texts_of owner) (sym same),
+      subst (λ (urls : List (List ℕ × Url)). length urls ≤ 16384) (sym same)
+          c.self.invariant.1,
+    )
 
 pub invariant_of-self-else-is_err : goal.invariant_of-self-else-is_err
 invariant_of-self-else-is_err c =
@@ -40,6 +45,7 @@ invariant_of-self-else-is_err c =
     let key = c.in_ok-key.ensures.items ∙ c.as_slice.ensures.bytes in
     let more = c.in_ok-insert.ensures.comes (ap (λ key. url_at key urls) key ∙ absent) in (
       subst (λ (urls : List (List ℕ × Url)). Agree urls c.put_text.new.owners.entries) (sym inserted)
-          (agree_inserted urls c.self.inside.owners.entries c.put_text.new.owners.entries text c.args.url c.in_ok-insert.ensures.ordered absent c.self.invariant.0 comes),
+          (agree_inserted urls c.self.inside.owners.entries c.put_text.new.owners.entries text c.args.url c.in_ok-insert.ensures.ordered absent
+          c.self.invariant.0 comes),
       omega (arith, more.many, room),
     )

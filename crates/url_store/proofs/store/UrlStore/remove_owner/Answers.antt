@@ -15,7 +15,8 @@ invariant_of-self-in_err-url c =
     let owner = c.args.owner.0 in
     let urls = c.self.inside.urls in
     let text = c.in_ok-text.text.items in
-    let least : slice_get (texts_of owner urls) 0 ≡ Some text = ap (λ texts. slice_get texts 0) (sym (c.self.invariant.0 owner)) ∙ sym c.in_ok-text.ensures.first in
+    let least : slice_get (texts_of owner urls) 0 ≡ Some text = ap (λ texts. slice_get texts 0) (sym (c.self.invariant.0 owner)) ∙ sym
+    c.in_ok-text.ensures.first in
     let first : IsFirst owner text urls = first_owned owner text urls c.remove.ensures.ordered least in
     let none : url_at text urls ≡ None = ap (λ text. url_at text urls) (sym c.as_slice.ensures.value) ∙ sym c.in_err-url.ensures.value in
     absurd (is_nowhere owner text urls first none)
@@ -25,7 +26,8 @@ returns-in_err-url-clause-first c =
     let owner = c.args.owner.0 in
     let urls = c.self.inside.urls in
     let text = c.in_ok-text.text.items in
-    let least : slice_get (texts_of owner urls) 0 ≡ Some text = ap (λ texts. slice_get texts 0) (sym (c.self.invariant.0 owner)) ∙ sym c.in_ok-text.ensures.first in
+    let least : slice_get (texts_of owner urls) 0 ≡ Some text = ap (λ texts. slice_get texts 0) (sym (c.self.invariant.0 owner)) ∙ sym
+    c.in_ok-text.ensures.first in
     let first : IsFirst owner text urls = first_owned owner text urls c.remove.ensures.ordered least in
     let none : url_at text urls ≡ None = ap (λ text. url_at text urls) (sym c.as_slice.ensures.value) ∙ sym c.in_err-url.ensures.value in
     absurd (is_nowhere owner text urls first none)
@@ -35,7 +37,8 @@ returns-in_err-url-clause-rest c =
     let owner = c.args.owner.0 in
     let urls = c.self.inside.urls in
     let text = c.in_ok-text.text.items in
-    let least : slice_get (texts_of owner urls) 0 ≡ Some text = ap (λ texts. slice_get texts 0) (sym (c.self.invariant.0 owner)) ∙ sym c.in_ok-text.ensures.first in
+    let least : slice_get (texts_of owner urls) 0 ≡ Some text = ap (λ texts. slice_get texts 0) (sym (c.self.invariant.0 owner)) ∙ sym
+    c.in_ok-text.ensures.first in
     let first : IsFirst owner text urls = first_owned owner text urls c.remove.ensures.ordered least in
     let none : url_at text urls ≡ None = ap (λ text. url_at text urls) (sym c.as_slice.ensures.value) ∙ sym c.in_err-url.ensures.value in
     absurd (is_nowhere owner text urls first none)
@@ -45,7 +48,8 @@ invariant_of-self-2 c =
     let owner = c.args.owner.0 in
     let urls = c.self.inside.urls in
     let text = c.in_ok-text.text.items in
-    let least : slice_get (texts_of owner urls) 0 ≡ Some text = ap (λ texts. slice_get texts 0) (sym (c.self.invariant.0 owner)) ∙ sym c.in_ok-text.ensures.first in
+    let least : slice_get (texts_of owner urls) 0 ≡ Some text = ap (λ texts. slice_get texts 0) (sym (c.self.invariant.0 owner)) ∙ sym
+    c.in_ok-text.ensures.first in
     let first : IsFirst owner text urls = first_owned owner text urls c.remove.ensures.ordered least in
     let rest : c.remove.new.self ≡ without text urls = c.remove.ensures.rest ∙ ap (λ text. without text urls) c.as_slice.ensures.value in (
       subst (λ (urls : List (List ℕ × Url)). Agree urls c.pop_text.new.owners.entries) (sym rest)
@@ -58,7 +62,8 @@ returns-clause-first c =
     let owner = c.args.owner.0 in
     let urls = c.self.inside.urls in
     let text = c.in_ok-text.text.items in
-    let least : slice_get (texts_of owner urls) 0 ≡ Some text = ap (λ texts. slice_get texts 0) (sym (c.self.invariant.0 owner)) ∙ sym c.in_ok-text.ensures.first in
+    let least : slice_get (texts_of owner urls) 0 ≡ Some text = ap (λ texts. slice_get texts 0) (sym (c.self.invariant.0 owner)) ∙ sym
+    c.in_ok-text.ensures.first in
     let first : IsFirst owner text urls = first_owned owner text urls c.remove.ensures.ordered least in
     let there : url_at text urls ≡ Some c.in_ok-url.url = ap (λ text. url_at text urls) (sym c.as_slice.ensures.value) ∙ sym c.in_ok-url.ensures.value in
     let same : c.in_ok-url.url ≡ first.url = let both = sym there ∙ first.there in cc in
@@ -69,7 +74,8 @@ returns-clause-rest c =
     let owner = c.args.owner.0 in
     let urls = c.self.inside.urls in
     let text = c.in_ok-text.text.items in
-    let least : slice_get (texts_of owner urls) 0 ≡ Some text = ap (λ texts. slice_get texts 0) (sym (c.self.invariant.0 owner)) ∙ sym c.in_ok-text.ensures.first in
+    let least : slice_get (texts_of owner urls) 0 ≡ Some text = ap (λ texts. slice_get texts 0) (sym (c.self.invariant.0 owner)) ∙ sym
+    c.in_ok-text.ensures.first in
     let first : IsFirst owner text urls = first_owned owner text urls c.remove.ensures.ordered least in
     let rest : c.remove.new.self ≡ without text urls = c.remove.ensures.rest ∙ ap (λ text. without text urls) c.as_slice.ensures.value in
     rw (← c.self.view_is, first.first) rest
@@ -79,7 +85,8 @@ returns-in_err-url-clause-none c =
     let owner = c.args.owner.0 in
     let urls = c.self.inside.urls in
     let text = c.in_ok-text.text.items in
-    let least : slice_get (texts_of owner urls) 0 ≡ Some text = ap (λ texts. slice_get texts 0) (sym (c.self.invariant.0 owner)) ∙ sym c.in_ok-text.ensures.first in
+    let least : slice_get (texts_of owner urls) 0 ≡ Some text = ap (λ texts. slice_get texts 0) (sym (c.self.invariant.0 owner)) ∙ sym
+    c.in_ok-text.ensures.first in
     let first : IsFirst owner text urls = first_owned owner text urls c.remove.ensures.ordered least in
     let none : url_at text urls ≡ None = ap (λ text. url_at text urls) (sym c.as_slice.ensures.value) ∙ sym c.in_err-url.ensures.value in
     absurd (is_nowhere owner text urls first none)
@@ -91,7 +98,8 @@ returns-in_err-text-clause-none c =
     let least : slice_get (texts_of owner urls) 0 ≡ None = ap (λ texts. slice_get texts 0) (sym (c.self.invariant.0 owner)) ∙ sym c.in_err-text.ensures.first in
     on_none c.from_residual.result (
       c.self.view_is,
-      subst (λ (urls : List (List ℕ × Url)). (text : List ℕ) → own_url owner text urls ≡ None) c.self.view_is (none_own owner urls (none_owned owner urls least)),
+      subst (λ (urls : List (List ℕ × Url)). (text : List ℕ) → own_url owner text urls ≡ None) c.self.view_is
+          (none_own owner urls (none_owned owner urls least)),
     )
 
 pub returns-clause-goes : goal.returns-clause-goes
@@ -99,7 +107,8 @@ returns-clause-goes c =
     let owner = c.args.owner.0 in
     let urls = c.self.inside.urls in
     let text = c.in_ok-text.text.items in
-    let least : slice_get (texts_of owner urls) 0 ≡ Some text = ap (λ texts. slice_get texts 0) (sym (c.self.invariant.0 owner)) ∙ sym c.in_ok-text.ensures.first in
+    let least : slice_get (texts_of owner urls) 0 ≡ Some text = ap (λ texts. slice_get texts 0) (sym (c.self.invariant.0 owner)) ∙ sym
+    c.in_ok-text.ensures.first in
     let first : IsFirst owner text urls = first_owned owner text urls c.remove.ensures.ordered least in
     let there : url_at text urls ≡ Some c.in_ok-url.url = ap (λ text. url_at text urls) (sym c.as_slice.ensures.value) ∙ sym c.in_ok-url.ensures.value in
     let same : first.url ≡ c.in_ok-url.url = let both = sym there ∙ first.there in cc in

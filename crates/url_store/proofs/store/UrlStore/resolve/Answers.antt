@@ -8,7 +8,8 @@ pub returns-then-not-is_same : goal.returns-then-not-is_same
 returns-then-not-is_same c =
     let cut = c.without_fragment.ensures ∙ ap without_fragment c.as_slice.ensures.bytes in
     let found : url_at (without_fragment c.args.text.now) c.args.self.now ≡ Some c.in-Some.url.now =
-    ap (url_at (without_fragment c.args.text.now)) (sym c.self.view_is) ∙ ap (λ text. url_at text c.self.inside.urls) (sym cut) ∙ sym c.find.ensures ∙ ap option_copied c.in-Some.is in
+    ap (url_at (without_fragment c.args.text.now)) (sym c.self.view_is) ∙ ap (λ text. url_at text c.self.inside.urls) (sym cut) ∙ sym c.find.ensures ∙ ap
+    option_copied c.in-Some.is in
     let same : bytes_eq c.in-Some.url.now.origin c.args.origin.now ≡ false = search rules in
     rw (found, same) refl
 
@@ -16,6 +17,7 @@ pub returns : goal.returns
 returns c =
     let cut = c.without_fragment.ensures ∙ ap without_fragment c.as_slice.ensures.bytes in
     let found : url_at (without_fragment c.args.text.now) c.args.self.now ≡ Some c.in-Some.url.now =
-    ap (url_at (without_fragment c.args.text.now)) (sym c.self.view_is) ∙ ap (λ text. url_at text c.self.inside.urls) (sym cut) ∙ sym c.find.ensures ∙ ap option_copied c.in-Some.is in
+    ap (url_at (without_fragment c.args.text.now)) (sym c.self.view_is) ∙ ap (λ text. url_at text c.self.inside.urls) (sym cut) ∙ sym c.find.ensures ∙ ap
+    option_copied c.in-Some.is in
     let same : bytes_eq c.in-Some.url.now.origin c.args.origin.now ≡ true = search rules in
     rw (found, same) refl

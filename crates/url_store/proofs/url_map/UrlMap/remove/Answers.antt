@@ -21,7 +21,8 @@ returns-clause-rest c =
 
 pub returns-clause-ordered : goal.returns-clause-ordered
 returns-clause-ordered c =
-    subst (λ (urls : List (List ℕ × Url)). IsStrictlySortedBy (slice_cmp nat_cmp) (keys_of urls)) c.self.view_is (sorted_seen c.self.inside.urls.entries c.len-count.ensures.ordered)
+    subst (λ (urls : List (List ℕ × Url)). IsStrictlySortedBy (slice_cmp nat_cmp) (keys_of urls)) c.self.view_is
+    (sorted_seen c.self.inside.urls.entries c.len-count.ensures.ordered)
 
 pub returns-clause-goes : goal.returns-clause-goes
 returns-clause-goes c =
