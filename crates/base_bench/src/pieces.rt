@@ -1,4 +1,5 @@
 ghost use Rattle.std.specs.Prelude.{◌≤◌};
+ghost use Rattle.blob_words.specs.declared.bounds.TheConstants.{MOST_PIECES};
 
 use crate::draws::{CALLS, next, place};
 use blob_words::{NoMemory, PieceNo};
@@ -8,7 +9,7 @@ use std::time::Instant;
 
 // So many pieces of 4 bytes.
 fn fill(alloc: Global, count: u32) -> Result<Recent, NoMemory>
-    requires { count ≤ 65536 }
+    requires { count ≤ MOST_PIECES }
 {
     let mut recent = Recent::new(alloc)?;
     for piece in 0..count {
@@ -35,7 +36,7 @@ fn find_victims(recent: &Recent) -> Result<usize, NoMemory> {
 
 /// Times uses of pieces, and searches for one piece to page.
 pub fn time_pieces(rt: &HostRuntime, count: u32) -> anyhow::Result<()>
-    requires { count ≤ 65536 }
+    requires { count ≤ MOST_PIECES }
 {
     let mut recent = fill(rt.alloc(), count)?;
     let start = Instant::now(rt)?;
