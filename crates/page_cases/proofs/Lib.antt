@@ -1,0 +1,4 @@
+pub mod Ends
+pub mod Many
+pub mod Moves
+pub mod Told
