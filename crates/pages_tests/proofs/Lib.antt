@@ -1,4 +1,0 @@
-pub mod Ends
-pub mod Many
-pub mod Moves
-pub mod Told
