@@ -7,6 +7,7 @@ use Rattle.blob_source.specs.Faults.{Rose}
 use Rattle.item_shares.specs.declared.shares.Share.{Share}
 use Rattle.item_shares.specs.Shares.{share_at}
 use Rattle.page_disk.specs.declared.change.Change.{Change}
+use Rattle.page_disk.specs.declared.disk.PageDisk.{Ghosts}
 use Rattle.page_disk.specs.declared.change.Change.TheVariants as changes
 use Rattle.page_disk.specs.Changes.{with_change}
 use Rattle.page_files.specs.declared.ending.JobEnd.{JobEnd}
@@ -34,9 +35,15 @@ pub record Scene : Type 0 where
   pub faults : ℕ
   pub meter : ℕ
 
--- a scene from its parts
-abbrev pub scene : Files → List (Option Share) → Option (List Change) → ℕ → ℕ → Scene
-scene files shares changes faults meter = record { files = files; shares = shares; changes = changes; faults = faults; meter = meter }
+-- what is seen over a disk
+abbrev pub scene : {D : Type 0} → Ghosts D → Files → List (Option Share) → D → Scene
+scene disks files shares disk = record {
+  files = files;
+  shares = shares;
+  changes = disks.changes disk;
+  faults = disks.faults disk;
+  meter = disks.meter disk;
+}
 
 -- the number of the next page
 abbrev pub next_page : Scene → PageNo

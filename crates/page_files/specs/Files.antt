@@ -1,7 +1,7 @@
 -- Page files with what is reserved and the job in flight, and what each call does to them. Own.
-use Rattle.std.specs.Prelude.{ℕ, ◌≡◌, ◌+◌, ◌-◌, ◌≤◌, ◌||◌, ◌&&◌, Bool, true, false, List, [], ◌∷◌, ◌++◌, not, map, fold, set, length, Option, Some, None, is_some, is_none, nat_eq, if◌then◌else◌}
+use Rattle.std.specs.Prelude.{ℕ, ◌≡◌, ◌≢◌, ◌+◌, ◌-◌, ◌^◌, ◌<◌, ◌≤◌, ◌||◌, ◌&&◌, Bool, true, false, List, [], ◌∷◌, ◌++◌, not, map, fold, set, length, Option, Some, None, is_some, is_none, nat_eq, if◌then◌else◌}
 use Rattle.std.specs.Option.{option_map}
-use Rattle.std.specs.List.{count_by, list_any, position}
+use Rattle.std.specs.List.{count_by, list_any, position, AllByRecursion, IsDistinct}
 use Rattle.blob_words.specs.declared.number.PieceNo.{PieceNo}
 use Rattle.blob_words.specs.declared.number.PageNo.{PageNo}
 use Rattle.blob_words.specs.declared.number.JobNo.{JobNo}
@@ -14,7 +14,7 @@ use Rattle.page_files.specs.declared.held.Held.{Held}
 use Rattle.page_files.specs.declared.job.Job.{Job}
 use Rattle.page_files.specs.declared.page.Page.{Page}
 use Rattle.page_files.specs.declared.page.Page.TheVariants.{Asked}
-use Rattle.page_files.specs.Pieces.{bytes_of, without}
+use Rattle.page_files.specs.Pieces.{bytes_of, numbers, without, HasBytes}
 use Rattle.page_files.specs.Pages.{can_move, is_unasked, page_at, page_charge, released_at}
 
 -- the bytes that may be charged, the pages by their numbers, the bytes reserved, the job in flight, whether pieces may still be paged, and how many jobs were started
@@ -41,6 +41,12 @@ job_no number = record { 0 = number }
 abbrev pub left_of : Option Job → List Held
 left_of None = []
 left_of (Some job) = job.pieces
+
+-- the pieces left in a job, of which there are some
+abbrev pub AreLeft : Option Job → List Held → Type 0
+AreLeft job pieces =
+    (pieces ≡ left_of job) × (pieces ≢ []) × IsDistinct nat_eq (numbers pieces)
+    × AllByRecursion HasBytes pieces × (bytes_of pieces < 2 ^ 64)
 
 -- what is charged: the pages that hold a reached piece, what is reserved, and the pieces left in the job in flight
 abbrev pub charge_by : List Page → ℕ → Option Job → ℕ

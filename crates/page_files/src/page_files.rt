@@ -174,7 +174,8 @@ impl PageFiles {
     /// A piece of a page is reached there no more. Nothing changes where it isn't.
     #[tactic(auto, using(crate::proofs::Agreement::agrees_released))]
     pub fn release_piece(&mut self, page: PageNo, piece: PieceNo)
-        ensures files { self.new ≡ record self.old { pages = released_at page.0 piece self.old.pages } }
+        ensures files { self.new
+            ≡ record self.old { pages = released_at page.0 piece self.old.pages } }
         ensures agrees { (changes : List Change) → Agrees self.old.pages changes
             → Agrees self.new.pages changes }
     {

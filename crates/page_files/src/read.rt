@@ -39,7 +39,8 @@ fn read_at<D: PageDisk>(
     ensures good { OnOk result (D.faults disk.new ≡ D.faults disk.old) }
     ensures failed { OnErr result (Rose (D.faults disk.old) (D.faults disk.new)) }
     ensures later { D.faults disk.old ≤ D.faults disk.new }
-    ensures read { OnOk result (D.meter disk.new ≡ min (D.meter disk.old + held.now.len) (2 ^ 64 - 1)) }
+    ensures read { OnOk result
+        (D.meter disk.new ≡ min (D.meter disk.old + held.now.len) (2 ^ 64 - 1)) }
     ensures unread { OnErr result (D.meter disk.new ≡ D.meter disk.old) }
 {
     let end = start + held.len as usize;
@@ -99,7 +100,8 @@ pub fn read_all<D: PageDisk>(
     ensures bytes { IfOk result (λ bytes. IfSome (D.changes disk.old) (λ changes. bytes.items
         ≡ read_of page changes pieces.now)) }
     ensures good { OnOk result (D.faults disk.new ≡ D.faults disk.old) }
-    ensures unread { IsErrOf result ReadFault.Unread → Rose (D.faults disk.old) (D.faults disk.new) }
+    ensures unread { IsErrOf result ReadFault.Unread
+        → Rose (D.faults disk.old) (D.faults disk.new) }
     ensures memory { IsErrOf result ReadFault.NoMemory →
         (D.faults disk.new ≡ D.faults disk.old) × (D.meter disk.new ≡ D.meter disk.old) }
     ensures later { D.faults disk.old ≤ D.faults disk.new }

@@ -14,8 +14,10 @@ use page_disk::{PageDisk, PutFault};
 
 // Appends the bytes in runs.
 fn append_all<D: PageDisk>(disk: &mut D, bytes: &[u8]) -> Result<(), Failed>
-    requires fits { IsSomeAnd (D.writing disk.old) (λ write. write.came + length bytes.now ≤ write.len) }
-    ensures ok { OnOk result ((D.writing disk.new ≡ with_more (length bytes.now) (D.writing disk.old))
+    requires fits { IsSomeAnd (D.writing disk.old)
+        (λ write. write.came + length bytes.now ≤ write.len) }
+    ensures ok { OnOk result
+        ((D.writing disk.new ≡ with_more (length bytes.now) (D.writing disk.old))
         × (D.changes disk.new ≡ D.changes disk.old)
         × IfSome (D.changes disk.new) (λ _. D.came disk.new ≡ D.came disk.old ++ bytes.now)) }
     ensures failed { OnErr result ((D.writing disk.new ≡ None)
@@ -38,9 +40,11 @@ fn append_all<D: PageDisk>(disk: &mut D, bytes: &[u8]) -> Result<(), Failed>
 
 // Appends the bytes of each item in runs of its own.
 fn append_items<D: PageDisk>(disk: &mut D, pieces: &[Held], shares: &Shares) -> Result<(), Failed>
-    requires fits { IsSomeAnd (D.writing disk.old) (λ write. write.came + bytes_of pieces.now ≤ write.len) }
+    requires fits { IsSomeAnd (D.writing disk.old)
+        (λ write. write.came + bytes_of pieces.now ≤ write.len) }
     requires items { AllByRecursion (IsMemoryIn shares.now) pieces.now }
-    ensures ok { OnOk result ((D.writing disk.new ≡ with_more (bytes_of pieces.now) (D.writing disk.old))
+    ensures ok { OnOk result
+        ((D.writing disk.new ≡ with_more (bytes_of pieces.now) (D.writing disk.old))
         × (D.changes disk.new ≡ D.changes disk.old)
         × IfSome (D.changes disk.new) (λ _. D.came disk.new
         ≡ D.came disk.old ++ bytes_in shares.now pieces.now)) }
@@ -99,8 +103,8 @@ pub fn write_items<D: PageDisk>(
     requires new_page { IfSome (D.changes disk.old) (IsNew page.0) }
     requires items { AllByRecursion (IsMemoryIn shares.now) pieces.now }
     ensures closed { D.writing disk.new ≡ None }
-    ensures ends { Wrote page (bytes_in shares.now pieces.now) (D.changes disk.old) (D.changes disk.new)
-        (D.faults disk.old) (D.faults disk.new) result }
+    ensures ends { Wrote page (bytes_in shares.now pieces.now)
+        (D.changes disk.old) (D.changes disk.new) (D.faults disk.old) (D.faults disk.new) result }
     ensures later { D.faults disk.old ≤ D.faults disk.new }
     ensures meter { D.meter disk.new ≡ D.meter disk.old }
 {

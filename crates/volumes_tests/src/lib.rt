@@ -8,8 +8,6 @@ mod calls;
 #[cfg(test)]
 mod folders;
 #[cfg(test)]
-mod same;
-#[cfg(test)]
 mod sixteen;
 #[cfg(test)]
 mod two;

@@ -2,9 +2,9 @@
 ghost use Rattle.std.specs.Prelude.{◌≡◌, ◌≢◌, ◌-◌, ◌^◌, ◌<◌, ◌≤◌, [], None, Some, true, false, length, map, nat_eq, IfOk, IfSome, IsSomeAnd, MatchResult, OnErr};
 ghost use Rattle.std.specs.List.{sum_by, AllByRecursion, IsDistinct};
 ghost use Rattle.item_shares.specs.Shares.{item_at};
-ghost use Rattle.page_files.specs.Pieces.{bytes_of, named, numbers, HasBytes};
+ghost use Rattle.page_files.specs.Pieces.{named};
 ghost use Rattle.page_files.specs.Items.{IsPieceIn, piece_of, IsMemoryIn, IsReservedOf};
-ghost use Rattle.page_files.specs.Files.{source_of, is_in_flight, job_no, left_of, room, turned_off, with_job, Agrees};
+ghost use Rattle.page_files.specs.Files.{AreLeft, source_of, is_in_flight, job_no, left_of, room, turned_off, with_job, Agrees};
 ghost use Rattle.page_files.specs.Ends.{LeftWritten, scene, JobEnds, StoreEnds};
 
 use crate::copies::named;
@@ -37,8 +37,8 @@ impl PageFiles {
         self.begin_job(None, pieces.as_slice())
     }
 
-    /// Ends a job of either kind whose reply was lost. Its pieces stay where they are, and paging is
-    /// off.
+    /// Ends a job of either kind whose reply was lost. Its pieces stay where they are, and paging
+    /// is off.
     pub fn lose_job(&mut self, job: JobNo) -> Result<(), NoJob>
         ensures { MatchResult result
             (λ _. (is_in_flight job self.old.job ≡ true) × (self.new ≡ turned_off self.old))
@@ -67,8 +67,8 @@ impl PageFiles {
         ensures closed { D.writing disk.new ≡ None }
         ensures agrees { IfSome (D.changes disk.new) (Agrees self.new.pages) }
         ensures ends { JobEnds job
-            (scene self.old shares.old (D.changes disk.old) (D.faults disk.old) (D.meter disk.old))
-            (scene self.new shares.new (D.changes disk.new) (D.faults disk.new) (D.meter disk.new)) result }
+            (scene D.PageDisk self.old shares.old disk.old)
+            (scene D.PageDisk self.new shares.new disk.new) result }
         ensures later { D.faults disk.old ≤ D.faults disk.new }
         ensures meter { D.meter disk.new ≡ D.meter disk.old }
     {
@@ -94,17 +94,14 @@ impl PageFiles {
     ) -> Result<JobEnd, JobFault>
         requires closed { D.writing disk.old ≡ None }
         requires agrees { IfSome (D.changes disk.old) (Agrees self.old.pages) }
-        requires left { left.now ≡ left_of self.old.job }
-        requires some { left.now ≢ [] }
-        requires apart { IsDistinct nat_eq (numbers left.now) }
-        requires long { AllByRecursion HasBytes left.now }
-        requires fits { bytes_of left.now < 2 ^ 64 }
+        requires left { AreLeft self.old.job left.now }
         requires items { AllByRecursion (IsMemoryIn shares.old) left.now }
         requires numbers { length self.old.pages < 2 ^ 31 }
         ensures closed { D.writing disk.new ≡ None }
         ensures agrees { IfSome (D.changes disk.new) (Agrees self.new.pages) }
-        ensures ends { LeftWritten (scene self.old shares.old (D.changes disk.old) (D.faults disk.old) (D.meter disk.old))
-            (scene self.new shares.new (D.changes disk.new) (D.faults disk.new) (D.meter disk.new)) result }
+        ensures ends { LeftWritten
+            (scene D.PageDisk self.old shares.old disk.old)
+            (scene D.PageDisk self.new shares.new disk.new) result }
         ensures later { D.faults disk.old ≤ D.faults disk.new }
         ensures meter { D.meter disk.new ≡ D.meter disk.old }
     {
@@ -146,9 +143,10 @@ impl PageFiles {
         requires numbers { length self.old.pages < 2 ^ 31 }
         ensures closed { D.writing disk.new ≡ None }
         ensures agrees { IfSome (D.changes disk.new) (Agrees self.new.pages) }
-        ensures ends { IfSome (item_at shares.old slot) (λ item. StoreEnds (piece_of item) slot bytes.now
-            (scene self.old shares.old (D.changes disk.old) (D.faults disk.old) (D.meter disk.old))
-            (scene self.new shares.new (D.changes disk.new) (D.faults disk.new) (D.meter disk.new)) result) }
+        ensures ends { IfSome (item_at shares.old slot) (λ item.
+            StoreEnds (piece_of item) slot bytes.now
+            (scene D.PageDisk self.old shares.old disk.old)
+            (scene D.PageDisk self.new shares.new disk.new) result) }
         ensures later { D.faults disk.old ≤ D.faults disk.new }
         ensures meter { D.meter disk.new ≡ D.meter disk.old }
     {
@@ -182,8 +180,8 @@ impl PageFiles {
         ensures closed { D.writing disk.new ≡ None }
         ensures agrees { IfSome (D.changes disk.new) (Agrees self.new.pages) }
         ensures ends { StoreEnds held.piece held.slot bytes.now
-            (scene self.old shares.old (D.changes disk.old) (D.faults disk.old) (D.meter disk.old))
-            (scene self.new shares.new (D.changes disk.new) (D.faults disk.new) (D.meter disk.new)) result }
+            (scene D.PageDisk self.old shares.old disk.old)
+            (scene D.PageDisk self.new shares.new disk.new) result }
         ensures later { D.faults disk.old ≤ D.faults disk.new }
         ensures meter { D.meter disk.new ≡ D.meter disk.old }
     {

@@ -1,12 +1,12 @@
 //! Compact jobs.
-ghost use Rattle.std.specs.Prelude.{List, ◌≡◌, ◌≢◌, [], ◌+◌, ◌-◌, ◌^◌, ◌<◌, ◌≤◌, None, Some, true, length, min, IfOk, IfSome, OnErr, nat_eq};
-ghost use Rattle.std.specs.List.{AllByRecursion, IsDistinct};
+ghost use Rattle.std.specs.Prelude.{List, ◌≡◌, ◌+◌, ◌-◌, ◌^◌, ◌<◌, ◌≤◌, None, Some, true, length, min, IfOk, IfSome, OnErr};
+ghost use Rattle.std.specs.List.{AllByRecursion};
 ghost use Rattle.page_disk.specs.declared.change.Change.{Change};
 ghost use Rattle.page_disk.specs.Changes.{HasRange};
-ghost use Rattle.page_files.specs.Pieces.{bytes_of, names, numbers, HasBytes};
+ghost use Rattle.page_files.specs.Pieces.{bytes_of, names};
 ghost use Rattle.page_files.specs.Pages.{pieces_at};
 ghost use Rattle.page_files.specs.Items.{IsPagedIn};
-ghost use Rattle.page_files.specs.Files.{job_no, left_of, source_of, thin, with_job, without_pieces, Agrees};
+ghost use Rattle.page_files.specs.Files.{AreLeft, job_no, left_of, source_of, thin, with_job, without_pieces, Agrees};
 ghost use Rattle.page_files.specs.Ends.{LeftMoved, scene, MoveEnds};
 
 use crate::copies::names;
@@ -57,8 +57,8 @@ impl PageFiles {
         ensures closed { D.writing disk.new ≡ None }
         ensures agrees { IfSome (D.changes disk.new) (Agrees self.new.pages) }
         ensures ends { MoveEnds job
-            (scene self.old shares.old (D.changes disk.old) (D.faults disk.old) (D.meter disk.old))
-            (scene self.new shares.new (D.changes disk.new) (D.faults disk.new) (D.meter disk.new)) result }
+            (scene D.PageDisk self.old shares.old disk.old)
+            (scene D.PageDisk self.new shares.new disk.new) result }
         ensures later { D.faults disk.old ≤ D.faults disk.new }
         ensures meter { min (D.meter disk.old) (2 ^ 64 - 1) ≤ D.meter disk.new }
         ensures read { IfOk result (λ _. min (D.meter disk.new) (2 ^ 64 - 1)
@@ -90,19 +90,16 @@ impl PageFiles {
     ) -> Result<MoveEnd, MoveFault>
         requires closed { D.writing disk.old ≡ None }
         requires agrees { IfSome (D.changes disk.old) (Agrees self.old.pages) }
-        requires left { left.now ≡ left_of self.old.job }
-        requires some { left.now ≢ [] }
-        requires apart { IsDistinct nat_eq (numbers left.now) }
-        requires long { AllByRecursion HasBytes left.now }
-        requires fits { bytes_of left.now < 2 ^ 64 }
+        requires left { AreLeft self.old.job left.now }
         requires items { AllByRecursion (IsPagedIn source shares.old) left.now }
         requires there { IfSome (D.changes disk.old) (λ changes.
             AllByRecursion (λ held. HasRange source.0 held.off held.len changes) left.now) }
         requires numbers { length self.old.pages < 2 ^ 31 }
         ensures closed { D.writing disk.new ≡ None }
         ensures agrees { IfSome (D.changes disk.new) (Agrees self.new.pages) }
-        ensures ends { LeftMoved source (scene self.old shares.old (D.changes disk.old) (D.faults disk.old) (D.meter disk.old))
-            (scene self.new shares.new (D.changes disk.new) (D.faults disk.new) (D.meter disk.new)) result }
+        ensures ends { LeftMoved source
+            (scene D.PageDisk self.old shares.old disk.old)
+            (scene D.PageDisk self.new shares.new disk.new) result }
         ensures later { D.faults disk.old ≤ D.faults disk.new }
         ensures meter { min (D.meter disk.old) (2 ^ 64 - 1) ≤ D.meter disk.new }
         ensures read { IfOk result (λ _. min (D.meter disk.new) (2 ^ 64 - 1)

@@ -35,7 +35,8 @@ impl PageFiles {
         ensures closed { D.writing disk.new ≡ None }
         ensures agrees { IfSome (D.changes disk.new) (Agrees self.new.pages) }
         ensures files { self.new ≡ asked place self.old }
-        ensures changes { D.changes disk.new ≡ with_change (removal place result) (D.changes disk.old) }
+        ensures changes { D.changes disk.new
+            ≡ with_change (removal place result) (D.changes disk.old) }
         ensures good { result ≡ true → D.faults disk.new ≡ D.faults disk.old }
         ensures left { result ≡ false → Rose (D.faults disk.old) (D.faults disk.new) }
         ensures later { D.faults disk.old ≤ D.faults disk.new }
@@ -59,10 +60,12 @@ impl PageFiles {
         ensures once { is_some result ≡ is_unasked (page_at self.old.pages place) }
         ensures files { self.new ≡ asked place self.old }
         ensures changes { D.changes disk.new ≡ option_map_or
-            (λ goes. with_change (removal place goes) (D.changes disk.old)) result (D.changes disk.old) }
+            (λ goes. with_change (removal place goes) (D.changes disk.old))
+            result (D.changes disk.old) }
         ensures good { IfSome result (λ goes. goes ≡ true → D.faults disk.new ≡ D.faults disk.old) }
         ensures none { IfNone result (D.faults disk.new ≡ D.faults disk.old) }
-        ensures left { IfSome result (λ goes. goes ≡ false → Rose (D.faults disk.old) (D.faults disk.new)) }
+        ensures left { IfSome result
+            (λ goes. goes ≡ false → Rose (D.faults disk.old) (D.faults disk.new)) }
         ensures later { D.faults disk.old ≤ D.faults disk.new }
         ensures meter { D.meter disk.new ≡ D.meter disk.old }
     {
@@ -82,10 +85,13 @@ impl PageFiles {
         ensures due { option_map (λ gone. gone.0.0) result ≡ position is_due self.old.pages }
         ensures files { self.new ≡ option_map_or (λ gone. asked gone.0.0 self.old) result self.old }
         ensures changes { D.changes disk.new ≡ option_map_or
-            (λ gone. with_change (removal gone.0.0 gone.1) (D.changes disk.old)) result (D.changes disk.old) }
+            (λ gone. with_change (removal gone.0.0 gone.1) (D.changes disk.old))
+            result (D.changes disk.old) }
         ensures none { IfNone result (D.faults disk.new ≡ D.faults disk.old) }
-        ensures good { IfSome result (λ gone. gone.1 ≡ true → D.faults disk.new ≡ D.faults disk.old) }
-        ensures left { IfSome result (λ gone. gone.1 ≡ false → Rose (D.faults disk.old) (D.faults disk.new)) }
+        ensures good { IfSome result
+            (λ gone. gone.1 ≡ true → D.faults disk.new ≡ D.faults disk.old) }
+        ensures left { IfSome result
+            (λ gone. gone.1 ≡ false → Rose (D.faults disk.old) (D.faults disk.new)) }
         ensures later { D.faults disk.old ≤ D.faults disk.new }
         ensures meter { D.meter disk.new ≡ D.meter disk.old }
     {

@@ -28,7 +28,8 @@ impl PageFiles {
         requires long { AllByRecursion HasBytes pieces.now }
         requires fits { bytes_of pieces.now < 2 ^ 64 }
         requires numbers { length self.old.pages < 2 ^ 31 }
-        ensures ok { IfOk result (λ next. IsNextPage (page_no (length self.old.pages)) pieces.now next
+        ensures ok { IfOk result (λ next.
+            IsNextPage (page_no (length self.old.pages)) pieces.now next
             × (self.new ≡ with_page Torn self.old)) }
         ensures err { OnErr result (self.new ≡ self.old) }
     {
@@ -50,7 +51,8 @@ impl PageFiles {
     pub(crate) fn give_back(&mut self)
         requires some { 0 < length self.old.pages }
         requires torn { page_at self.old.pages (length self.old.pages - 1) ≡ Torn }
-        ensures { self.new ≡ record self.old { pages = take (length self.old.pages - 1) self.old.pages } }
+        ensures { self.new
+            ≡ record self.old { pages = take (length self.old.pages - 1) self.old.pages } }
     {
         self.table.shut();
     }
@@ -59,7 +61,8 @@ impl PageFiles {
     pub(crate) fn keep(&mut self, next: NextPage, shares: &mut Shares) -> PieceList
         requires last { next.page.0 < length self.old.pages }
         requires torn { page_at self.old.pages next.page.0 ≡ Torn }
-        requires whole { (next.table ≡ next.pieces.items) × (next.size ≡ bytes_of next.pieces.items) }
+        requires whole { (next.table ≡ next.pieces.items)
+            × (next.size ≡ bytes_of next.pieces.items) }
         requires some { next.pieces.items ≢ [] }
         requires room { next.size ≤ room self.old }
         requires items { AllByRecursion (IsPieceIn shares.old) next.pieces.items }

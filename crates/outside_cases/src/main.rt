@@ -1,0 +1,23 @@
+//! Shows calls on what lies outside of the store: files, blob URLs, renderers, page disks and
+//! objects. Each line of standard input is a call, and is shown with its answer behind it; one that
+//! begins a table anew is not shown. A line that names nothing of these is shown as it is.
+#![tactic(auto)]
+
+mod files;
+mod folder;
+mod memory;
+mod objects;
+mod outside;
+mod renderers;
+mod slots;
+mod urls;
+
+use crate::outside::Outside;
+
+fn main(rt: HostRuntime) -> anyhow::Result<()> {
+    let mut outside = Outside::new(&rt)?;
+    for line in rt.lines(rt.alloc()) {
+        outside.call(&rt, line?.as_str())?;
+    }
+    Ok(())
+}

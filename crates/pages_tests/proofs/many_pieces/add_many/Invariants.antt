@@ -1,5 +1,0 @@
-use Rattle.pages_tests.specs.Moves.{IsRow}
-use Rattle.pages_tests.proofs.many_pieces.add_many.Given as goal
-
-abbrev pub invariant-loop-number : goal.invariant-loop-number
-invariant-loop-number l = IsRow l.number l.shares l.pieces.items
