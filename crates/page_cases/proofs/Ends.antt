@@ -50,7 +50,8 @@ one_long shares held there = by (item_at shares held.slot) there
     by (Some (Range slot off len)) is = absurd is
 
 -- bytes that were just put into a new page are there
-put_there : (pages : List Page) (changes : List Change) (bytes : List ℕ) → Agrees pages changes → HasRange (length pages) 0 (length bytes) (changes ++ Put (page_no (length pages)) bytes ∷ [])
+put_there : (pages : List Page) (changes : List Change) (bytes : List ℕ) → Agrees pages changes → HasRange (length pages) 0 (length bytes)
+    (changes ++ Put (page_no (length pages)) bytes ∷ [])
 put_there pages changes bytes so = (found, kept)
   where
     page : ℕ
@@ -74,7 +75,8 @@ put_there pages changes bytes so = (found, kept)
     kept : list_any (removes (length pages)) (changes ++ Put (page_no (length pages)) bytes ∷ []) ≡ false
     kept = list_any-append (removes (length pages)) changes (Put (page_no (length pages)) bytes ∷ []) ∙ ap (λ one. one || (false || false)) none
 
-told_there : (told new : Option (List Change)) (pages : List Page) (page : PageNo) (bytes : List ℕ) (len : ℕ) → IfSome told (Agrees pages) → page ≡ page_no (length pages) → new ≡ with_change (Put page bytes) told → length bytes ≡ len → IfSome new (HasRange page.0 0 len)
+told_there : (told new : Option (List Change)) (pages : List Page) (page : PageNo) (bytes : List ℕ) (len : ℕ) → IfSome told (Agrees pages) → page
+    ≡ page_no (length pages) → new ≡ with_change (Put page bytes) told → length bytes ≡ len → IfSome new (HasRange page.0 0 len)
 told_there None new pages page bytes len so is changed long = subst (λ (one : Option (List Change)). IfSome one (HasRange page.0 0 len)) (sym changed) tt
 told_there (Some changes) new pages page bytes len so is changed long =
     let there = put_there pages changes bytes so in
@@ -83,10 +85,12 @@ told_there (Some changes) new pages page bytes len so is changed long =
     subst (λ (one : Option (List Change)). IfSome one (HasRange page.0 0 len)) (sym changed) long_there
 
 -- where a job of one piece ended well, its bytes are in its page
-pub there_after : (job : JobNo) (old new : Scene) (end : Result JobEnd JobFault) (held : Held) → JobEnds job old new end → left_of old.files.job ≡ held ∷ [] → IsMemoryIn old.shares held → IfSome old.changes (Agrees old.files.pages) → IsThere held.len new.changes end
+pub there_after : (job : JobNo) (old new : Scene) (end : Result JobEnd JobFault) (held : Held) → JobEnds job old new end → left_of old.files.job ≡ held ∷ []
+    → IsMemoryIn old.shares held → IfSome old.changes (Agrees old.files.pages) → IsThere held.len new.changes end
 there_after job old new (Ok (job_ends.Paged page pieces)) held ends one memory so =
     let written = ends.1 in
-    let long : length (bytes_in old.shares (left_of old.files.job)) ≡ held.len = ap (λ list. length (bytes_in old.shares list)) one ∙ one_long old.shares held memory in
+    let long : length (bytes_in old.shares (left_of old.files.job)) ≡ held.len = ap (λ list. length (bytes_in old.shares list)) one ∙ one_long old.shares held
+    memory in
     told_there old.changes new.changes old.files.pages page (bytes_in old.shares (left_of old.files.job)) held.len so written.1 written.4 long
 there_after job old new (Ok job_ends.Empty) held ends one memory so = tt
 there_after job old new (Err fault) held ends one memory so = tt

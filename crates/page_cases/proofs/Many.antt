@@ -42,7 +42,8 @@ apart_push : (xs : List ℕ) (n : ℕ) → AllByRecursion (λ x. x < n) xs → I
 apart_push [] n below apart = one_apart n
 apart_push (x ∷ xs) n below apart =
     let less : x < n = below.0 in
-    IsDistinct-cons nat_eq x (xs ++ n ∷ []) (all_push (λ y. nat_eq x y ≡ false) xs n (IsDistinct-head nat_eq x xs apart) (ne_eqb x n (λ same. omega (arith, less, same)))) (apart_push xs n below.1 (IsDistinct-tail nat_eq x xs apart))
+    IsDistinct-cons nat_eq x (xs ++ n ∷ []) (all_push (λ y. nat_eq x y ≡ false) xs n (IsDistinct-head nat_eq x xs apart)
+    (ne_eqb x n (λ same. omega (arith, less, same)))) (apart_push xs n below.1 (IsDistinct-tail nat_eq x xs apart))
 
 map_push : {X Y : Type 0} (f : X → Y) (xs : List X) (y : X) → map f (xs ++ y ∷ []) ≡ map f xs ++ f y ∷ []
 map_push f [] y = refl
@@ -51,10 +52,12 @@ map_push f (x ∷ xs) y = ap (λ rest. f x ∷ rest) (map_push f xs y)
 -- an item stays where a vacant slot is filled
 module _ (old new : List (Option Share)) (slot : ℕ) (share : Option Share) (vacant : share_at old slot ≡ None) (changes : Changes old new slot share) where
   stays_memory : (held : Held) → IsMemoryIn old held → IsMemoryIn new held
-  stays_memory held is = subst (λ (one : Option Share). IsSomeAnd (option_map (λ (share : Share). share.item) one) (IsMemoryOf held)) (sym (changes.others held.slot apart)) is
+  stays_memory held is = subst (λ (one : Option Share). IsSomeAnd (option_map (λ (share : Share). share.item) one) (IsMemoryOf held))
+      (sym (changes.others held.slot apart)) is
     where
       apart : held.slot ≡ slot → ⊥
-      apart same = subst (λ (one : Option Share). IsSomeAnd (option_map (λ (share : Share). share.item) one) (IsMemoryOf held)) (ap (share_at old) same ∙ vacant) is
+      apart same = subst (λ (one : Option Share). IsSomeAnd (option_map (λ (share : Share). share.item) one) (IsMemoryOf held))
+          (ap (share_at old) same ∙ vacant) is
 
   all_stay : (pieces : List Held) → AllByRecursion (IsMemoryIn old) pieces → AllByRecursion (IsMemoryIn new) pieces
   all_stay pieces all = all_then (IsMemoryIn old) (IsMemoryIn new) stays_memory pieces all
@@ -71,18 +74,23 @@ row_none shares = record {
 }
 
 -- one piece more
-pub row_push : (old new : List (Option Share)) (slot n : ℕ) (bytes : List ℕ) (pieces : List (PieceNo × ℕ × ℕ)) → IsRow n old pieces → share_at old slot ≡ None → Changes old new slot (Some (share_of (Memory (piece_no n) bytes) 1)) → length bytes ≡ 1 → IsRow (n + 1) new (pieces ++ (piece_no n, slot, 1) ∷ [])
+pub row_push : (old new : List (Option Share)) (slot n : ℕ) (bytes : List ℕ) (pieces : List (PieceNo × ℕ × ℕ)) → IsRow n old pieces → share_at old slot ≡ None
+    → Changes old new slot (Some (share_of (Memory (piece_no n) bytes) 1)) → length bytes ≡ 1 → IsRow (n + 1) new (pieces ++ (piece_no n, slot, 1) ∷ [])
 row_push old new slot n bytes pieces row vacant changes one = record {
   count = omega (arith, row.count, length-append pieces ((piece_no n, slot, 1) ∷ []));
   below = subst (AllByRecursion (λ number. number < n + 1)) (sym (map_push (λ (piece : PieceNo × ℕ × ℕ). piece.0.0) pieces (piece_no n, slot, 1)))
-      (all_push (λ number. number < n + 1) (map (λ (piece : PieceNo × ℕ × ℕ). piece.0.0) pieces) n (all_then (λ number. number < n) (λ number. number < n + 1) (λ number less. omega (arith, less)) (map (λ (piece : PieceNo × ℕ × ℕ). piece.0.0) pieces) row.below) (omega arith));
+      (all_push (λ number. number < n + 1) (map (λ (piece : PieceNo × ℕ × ℕ). piece.0.0) pieces) n
+      (all_then (λ number. number < n) (λ number. number < n + 1) (λ number less. omega (arith, less)) (map (λ (piece : PieceNo × ℕ × ℕ). piece.0.0) pieces)
+      row.below) (omega arith));
   apart = subst (IsDistinct nat_eq) (sym (map_push (λ (piece : PieceNo × ℕ × ℕ). piece.0.0) pieces (piece_no n, slot, 1)))
       (apart_push (map (λ (piece : PieceNo × ℕ × ℕ). piece.0.0) pieces) n row.below row.apart);
   long = all_push (λ (piece : PieceNo × ℕ × ℕ). 0 < piece.2) pieces (piece_no n, slot, 1) row.long (omega arith);
   sum = omega (arith, row.sum, sum_by_push (λ (piece : PieceNo × ℕ × ℕ). piece.2) pieces (piece_no n, slot, 1));
   items = subst (AllByRecursion (IsMemoryIn new)) (sym (map_push named pieces (piece_no n, slot, 1)))
-      (all_push (IsMemoryIn new) (map named pieces) (named (piece_no n, slot, 1)) (all_stay old new slot (Some (share_of (Memory (piece_no n) bytes) 1)) vacant changes (map named pieces) row.items)
-      (subst (λ (share : Option Share). IsSomeAnd (option_map (λ (one : Share). one.item) share) (IsMemoryOf (named (piece_no n, slot, 1)))) (sym changes.changed) (refl, one)));
+      (all_push (IsMemoryIn new) (map named pieces) (named (piece_no n, slot, 1))
+      (all_stay old new slot (Some (share_of (Memory (piece_no n) bytes) 1)) vacant changes (map named pieces) row.items)
+      (subst (λ (share : Option Share). IsSomeAnd (option_map (λ (one : Share). one.item) share) (IsMemoryOf (named (piece_no n, slot, 1))))
+      (sym changes.changed) (refl, one)));
 }
 
 all_without : (P : Held → Type 0) (piece : PieceNo) (pieces : List Held) → AllByRecursion P pieces → AllByRecursion P (without piece pieces)
@@ -94,6 +102,7 @@ all_without P piece (held ∷ pieces) all = by (not (nat_eq piece.0 held.piece.0
     by false rest = rest
 
 -- what is left after a piece was struck was there before
-pub all_struck : (P : Held → Type 0) (piece : PieceNo) (job : Option Job) → AllByRecursion P (left_of job) → AllByRecursion P (left_of (option_map (struck piece) job))
+pub all_struck : (P : Held → Type 0) (piece : PieceNo) (job : Option Job) → AllByRecursion P (left_of job)
+    → AllByRecursion P (left_of (option_map (struck piece) job))
 all_struck P piece None all = all
 all_struck P piece (Some job) all = all_without P piece job.pieces all

@@ -37,7 +37,8 @@ item_length held (Some (Reserved piece len)) is = absurd is
 item_length held (Some (File name stamp off len)) is = absurd is
 item_length held (Some (Range slot off len)) is = absurd is
 
-both_length : (shares : List (Option Share)) (first second : ℕ) → AllByRecursion (IsMemoryIn shares) (both_held first second) → 1 ≤ length (bytes_in shares (both_held first second))
+both_length : (shares : List (Option Share)) (first second : ℕ) → AllByRecursion (IsMemoryIn shares) (both_held first second)
+    → 1 ≤ length (bytes_in shares (both_held first second))
 both_length shares first second items =
     let one = item_length (first_held first) (item_at shares first) items.0 in
     let front = option_map_or item_bytes (item_at shares first) [] in
@@ -45,7 +46,8 @@ both_length shares first second items =
     omega (arith, one, sum)
 
 -- the first change puts the bytes of the page
-put_range : (told : Option (List Change)) (bytes : List ℕ) → IfSome told (λ changes. changes ≡ []) → 1 ≤ length bytes → IfSome (with_change (Put (record { 0 = 0 }) bytes) told) (HasRange 0 0 1)
+put_range : (told : Option (List Change)) (bytes : List ℕ) → IfSome told (λ changes. changes ≡ []) → 1 ≤ length bytes
+    → IfSome (with_change (Put (record { 0 = 0 }) bytes) told) (HasRange 0 0 1)
 put_range None bytes fresh long = tt
 put_range (Some changes) bytes fresh long = subst (λ (one : List Change). HasRange 0 0 1 (one ++ Put (record { 0 = 0 }) bytes ∷ [])) (sym fresh) (long, refl)
 
@@ -53,7 +55,8 @@ module _ (limit first second : ℕ) (job : JobNo) (old new : Scene) (is : old.fi
   -- both pieces are in page 0
   pub both_paged : (end : Result JobEnd JobFault) → JobEnds job old new end → IfOk end (λ _. new.files.pages ≡ page_of_both first second)
   both_paged (Ok (job_ends.Paged page pieces)) ends =
-      ap (λ (files : Files). files.pages) ends.1.3 ∙ ap (λ (files : Files). (with_page (Whole (bytes_of (left_of files.job)) (placed 0 (left_of files.job))) (without_job files)).pages) is
+      ap (λ (files : Files). files.pages) ends.1.3 ∙ ap (λ (files : Files).
+      (with_page (Whole (bytes_of (left_of files.job)) (placed 0 (left_of files.job))) (without_job files)).pages) is
   both_paged (Ok job_ends.Empty) ends =
       let all : left_of old.files.job ≡ both_held first second = ap (λ (files : Files). left_of files.job) is in
       cc (all, ends.1.0)
@@ -68,12 +71,14 @@ module _ (limit first second : ℕ) (job : JobNo) (old new : Scene) (is : old.fi
   both_counted (Err fault) ends = tt
 
   -- and the disk has the byte of the first
-  pub both_there : (end : Result JobEnd JobFault) → JobEnds job old new end → IfSome old.changes (λ changes. changes ≡ []) → AllByRecursion (IsMemoryIn old.shares) (both_held first second) → IfOk end (λ _. IfSome new.changes (HasRange 0 0 1))
+  pub both_there : (end : Result JobEnd JobFault) → JobEnds job old new end → IfSome old.changes (λ changes. changes ≡ [])
+      → AllByRecursion (IsMemoryIn old.shares) (both_held first second) → IfOk end (λ _. IfSome new.changes (HasRange 0 0 1))
   both_there (Ok (job_ends.Paged page pieces)) ends fresh items =
       let all : left_of old.files.job ≡ both_held first second = ap (λ (files : Files). left_of files.job) is in
       let number : page ≡ record { 0 = 0 } = ends.1.1 ∙ ap (λ (files : Files). page_no (length files.pages)) is in
       let bytes = bytes_in old.shares (left_of old.files.job) in
-      let same : new.changes ≡ with_change (Put (record { 0 = 0 }) bytes) old.changes = ends.1.4 ∙ ap (λ (one : PageNo). with_change (Put one bytes) old.changes) number in
+      let same : new.changes ≡ with_change (Put (record { 0 = 0 }) bytes) old.changes =
+      ends.1.4 ∙ ap (λ (one : PageNo). with_change (Put one bytes) old.changes) number in
       let long : 1 ≤ length bytes = subst (λ (held : List Held). 1 ≤ length (bytes_in old.shares held)) (sym all) (both_length old.shares first second items) in
       subst (λ (told : Option (List Change)). IfSome told (HasRange 0 0 1)) (sym same) (put_range old.changes bytes fresh long)
   both_there (Ok job_ends.Empty) ends fresh items =
@@ -90,9 +95,12 @@ not_page true (Some one) page is so = cc
 not_page false source page is so = cc
 
 -- a compact job does not end as a page job
-pub no_page_job : (job : JobNo) (old new : Scene) (end : Result JobEnd JobFault) (source : PageNo) → source_of old.files.job ≡ Some source → JobEnds job old new end → new.files ≡ old.files
-no_page_job job old new (Ok (job_ends.Paged page pieces)) source is ends = absurd (not_page (is_in_flight job old.files.job) (source_of old.files.job) source is ends.0)
+pub no_page_job : (job : JobNo) (old new : Scene) (end : Result JobEnd JobFault) (source : PageNo) → source_of old.files.job ≡ Some source
+    → JobEnds job old new end → new.files ≡ old.files
+no_page_job job old new (Ok (job_ends.Paged page pieces)) source is ends =
+    absurd (not_page (is_in_flight job old.files.job) (source_of old.files.job) source is ends.0)
 no_page_job job old new (Ok job_ends.Empty) source is ends = absurd (not_page (is_in_flight job old.files.job) (source_of old.files.job) source is ends.0)
 no_page_job job old new (Err job_faults.NoJob) source is ends = ends.1
-no_page_job job old new (Err (job_faults.Failed page)) source is ends = absurd (not_page (is_in_flight job old.files.job) (source_of old.files.job) source is ends.0)
+no_page_job job old new (Err (job_faults.Failed page)) source is ends =
+    absurd (not_page (is_in_flight job old.files.job) (source_of old.files.job) source is ends.0)
 no_page_job job old new (Err job_faults.NoMemory) source is ends = absurd (not_page (is_in_flight job old.files.job) (source_of old.files.job) source is ends.0)

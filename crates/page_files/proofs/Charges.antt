@@ -12,8 +12,10 @@ use Rattle.page_files.specs.Pages.{can_move, is_due, is_thin, is_unasked, page_a
 use Rattle.page_files.specs.Files.{Files, page_no, room, thin}
 
 -- the least thin page, found by the room that is left
-pub thin_found : (files : Files) (free : ℕ) (found result : Option ℕ) → found ≡ position (can_move free) files.pages → free ≡ room files → found ≡ result → option_map page_no result ≡ thin files
-thin_found files free found result is same gives = sym (ap (option_map page_no) gives) ∙ ap (option_map page_no) (is ∙ ap (λ (n : ℕ). position (can_move n) files.pages) same)
+pub thin_found : (files : Files) (free : ℕ) (found result : Option ℕ) → found ≡ position (can_move free) files.pages → free ≡ room files → found ≡ result
+    → option_map page_no result ≡ thin files
+thin_found files free found result is same gives = sym (ap (option_map page_no) gives) ∙ ap (option_map page_no)
+    (is ∙ ap (λ (n : ℕ). position (can_move n) files.pages) same)
 
 due_is_unasked : (page : Page) → is_due page ≡ true → is_unasked page ≡ true
 due_is_unasked Torn is = refl

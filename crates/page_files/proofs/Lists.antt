@@ -25,25 +25,32 @@ pub bytes_push : (pieces : List Held) (held : Held) → bytes_of (pieces ++ held
 bytes_push pieces held = omega (arith, sum_by-append (λ (held : Held). held.len) pieces (held ∷ []))
 
 -- one piece more
-pub bytes_more : (pieces : List Held) (i : ℕ) (d : Held) → i < length pieces → bytes_of (take (i + 1) pieces) ≡ bytes_of (take i pieces) + (get_or pieces i d).len
+pub bytes_more : (pieces : List Held) (i : ℕ) (d : Held) → i < length pieces → bytes_of (take (i + 1) pieces) ≡ bytes_of (take i pieces) +
+    (get_or pieces i d).len
 bytes_more pieces i d inside = ap bytes_of (take_more pieces i d inside) ∙ bytes_push (take i pieces) (get_or pieces i d)
 
 pub bytes_within : (pieces : List Held) (i : ℕ) → bytes_of (take i pieces) ≤ bytes_of pieces
 bytes_within pieces i = sum_by-take-le (λ (held : Held). held.len) pieces i
 
-pub placed_push : (off : ℕ) (pieces : List Held) (held : Held) → placed off (pieces ++ held ∷ []) ≡ placed off pieces ++ record held { off = off + bytes_of pieces } ∷ []
+pub placed_push : (off : ℕ) (pieces : List Held) (held : Held) → placed off (pieces ++ held ∷ []) ≡ placed off pieces
+    ++ record held { off = off + bytes_of pieces } ∷ []
 placed_push off [] held = let none : off ≡ off + 0 = omega arith in ap (λ n. record held { off = n } ∷ []) none
 placed_push off (first ∷ pieces) held =
     let more : off + first.len + bytes_of pieces ≡ off + bytes_of (first ∷ pieces) = omega (arith, bytes_cons first pieces) in
-    ap (λ rest. record first { off = off } ∷ rest) (placed_push (off + first.len) pieces held ∙ ap (λ n. placed (off + first.len) pieces ++ record held { off = n } ∷ []) more)
+    ap (λ rest. record first { off = off } ∷ rest) (placed_push (off + first.len) pieces held ∙ ap
+    (λ n. placed (off + first.len) pieces ++ record held { off = n } ∷ []) more)
 
-pub placed_more : (pieces : List Held) (i : ℕ) (d : Held) → i < length pieces → placed 0 (take (i + 1) pieces) ≡ placed 0 (take i pieces) ++ record (get_or pieces i d) { off = bytes_of (take i pieces) } ∷ []
-placed_more pieces i d inside = ap (placed 0) (take_more pieces i d inside) ∙ placed_push 0 (take i pieces) (get_or pieces i d) ∙ (let none : 0 + bytes_of (take i pieces) ≡ bytes_of (take i pieces) = omega arith in ap (λ n. placed 0 (take i pieces) ++ record (get_or pieces i d) { off = n } ∷ []) none)
+pub placed_more : (pieces : List Held) (i : ℕ) (d : Held) → i < length pieces → placed 0 (take (i + 1) pieces) ≡ placed 0 (take i pieces)
+    ++ record (get_or pieces i d) { off = bytes_of (take i pieces) } ∷ []
+placed_more pieces i d inside = ap (placed 0) (take_more pieces i d inside) ∙ placed_push 0 (take i pieces) (get_or pieces i d) ∙
+    (let none : 0 + bytes_of (take i pieces) ≡ bytes_of (take i pieces) = omega arith in
+    ap (λ n. placed 0 (take i pieces) ++ record (get_or pieces i d) { off = n } ∷ []) none)
 
 -- pieces have the same bytes wherever they are placed
 pub placed_bytes : (off : ℕ) (pieces : List Held) → bytes_of (placed off pieces) ≡ bytes_of pieces
 placed_bytes off [] = refl
-placed_bytes off (held ∷ pieces) = bytes_cons (record held { off = off }) (placed (off + held.len) pieces) ∙ ap (λ n. held.len + n) (placed_bytes (off + held.len) pieces) ∙ sym (bytes_cons held pieces)
+placed_bytes off (held ∷ pieces) = bytes_cons (record held { off = off }) (placed (off + held.len) pieces) ∙ ap (λ n. held.len + n)
+    (placed_bytes (off + held.len) pieces) ∙ sym (bytes_cons held pieces)
 
 pub placed_numbers : (off : ℕ) (pieces : List Held) → numbers (placed off pieces) ≡ numbers pieces
 placed_numbers off [] = refl
@@ -57,7 +64,8 @@ placed_long off (held ∷ pieces) all = (all.0, placed_long (off + held.len) pie
 pub placed_apart : (off : ℕ) (pieces : List Held) → IsDistinct nat_eq (numbers pieces) → IsDistinct nat_eq (numbers (placed off pieces))
 placed_apart off pieces apart = subst (IsDistinct nat_eq) (sym (placed_numbers off pieces)) apart
 
-pub named_apart : (given : List (PieceNo × ℕ × ℕ)) → IsDistinct nat_eq (map (λ (piece : PieceNo × ℕ × ℕ). piece.0.0) given) → IsDistinct nat_eq (numbers (map named given))
+pub named_apart : (given : List (PieceNo × ℕ × ℕ)) → IsDistinct nat_eq (map (λ (piece : PieceNo × ℕ × ℕ). piece.0.0) given)
+    → IsDistinct nat_eq (numbers (map named given))
 named_apart given apart = subst (IsDistinct nat_eq) (sym (same given)) apart
   where
     same : (given : List (PieceNo × ℕ × ℕ)) → numbers (map named given) ≡ map (λ (piece : PieceNo × ℕ × ℕ). piece.0.0) given
@@ -68,7 +76,8 @@ pub named_long : (given : List (PieceNo × ℕ × ℕ)) → AllByRecursion (λ (
 named_long [] all = tt
 named_long (piece ∷ given) all = (all.0, named_long given all.1)
 
-without_by : (keeps : Bool) (held : Held) (rest pieces : List Held) → bytes_of rest ≤ bytes_of pieces → bytes_of (cond keeps (held ∷ rest) rest) ≤ bytes_of (held ∷ pieces)
+without_by : (keeps : Bool) (held : Held) (rest pieces : List Held) → bytes_of rest ≤ bytes_of pieces → bytes_of (cond keeps (held ∷ rest) rest) ≤ bytes_of
+    (held ∷ pieces)
 without_by true held rest pieces less = omega (arith, bytes_cons held rest, bytes_cons held pieces, less)
 without_by false held rest pieces less = omega (arith, bytes_cons held pieces, less)
 

@@ -28,23 +28,30 @@ all_set P (x ∷ xs) zero y all one = (one, all.1)
 all_set P (x ∷ xs) (suc i) y all one = (all.0, all_set P xs i y all.1 one)
 
 -- the first key that passes is that of the first page that passes
-prefix_same : {X : Type 0} (f : X → ℕ) (p : ℕ → Bool) (q : X → Bool) (xs : List X) → AllByRecursion (λ x. p (f x) ≡ q x) xs → prefix_len (λ y. not (p y)) (map f xs) ≡ prefix_len (λ x. not (q x)) xs
+prefix_same : {X : Type 0} (f : X → ℕ) (p : ℕ → Bool) (q : X → Bool) (xs : List X) → AllByRecursion (λ x. p (f x) ≡ q x) xs → prefix_len (λ y. not (p y))
+    (map f xs) ≡ prefix_len (λ x. not (q x)) xs
 prefix_same f p q [] all = refl
 prefix_same f p q (x ∷ xs) all = rw (all.0, prefix_same f p q xs all.1) refl
 
-pub position_same : {X : Type 0} (f : X → ℕ) (p : ℕ → Bool) (q : X → Bool) (xs : List X) → AllByRecursion (λ x. p (f x) ≡ q x) xs → position p (map f xs) ≡ position q xs
+pub position_same : {X : Type 0} (f : X → ℕ) (p : ℕ → Bool) (q : X → Bool) (xs : List X) → AllByRecursion (λ x. p (f x) ≡ q x) xs → position p (map f xs)
+    ≡ position q xs
 position_same f p q xs all = rw (prefix_same f p q xs all, length-map xs f) refl
 
 -- a thin page's key is small enough exactly where its pieces have room
-key_by : (bytes size room : ℕ) (held : Bool) → size < 2 ^ 64 → nat_le (cond (held && nat_lt (2 * bytes) size) bytes (2 ^ 64 - 1)) (min room (2 ^ 64 - 2)) ≡ ((held && nat_lt (2 * bytes) size) && nat_le bytes room)
+key_by : (bytes size room : ℕ) (held : Bool) → size < 2 ^ 64 → nat_le (cond (held && nat_lt (2 * bytes) size) bytes (2 ^ 64 - 1)) (min room (2 ^ 64 - 2))
+    ≡ ((held && nat_lt (2 * bytes) size) && nat_le bytes room)
 key_by bytes size room false fits = grind (arith, nat_tests)
-key_by bytes size room true fits = (elim (nat_lt (2 * bytes) size) as (λ r. nat_lt (2 * bytes) size ≡ r → nat_le (cond r bytes (2 ^ 64 - 1)) (min room (2 ^ 64 - 2)) ≡ (r && nat_le bytes room)) [
-  | true ↦ λ is. let less : 2 * bytes < size = ltb-true (2 * bytes) size is in grind (arith, nat_tests)
-  | false ↦ λ is. grind (arith, nat_tests)
-]) refl
+key_by bytes size room true fits =
+    (elim (nat_lt (2 * bytes) size) as (λ r. nat_lt (2 * bytes) size ≡ r → nat_le (cond r bytes (2 ^ 64 - 1)) (min room (2 ^ 64 - 2))
+    ≡ (r && nat_le bytes room)) [
+      | true ↦ λ is. let less : 2 * bytes < size = ltb-true (2 * bytes) size is in grind (arith, nat_tests)
+      | false ↦ λ is. grind (arith, nat_tests)
+    ]) refl
 
-pub thin_keys : (room : ℕ) (pages : List Page) → AllByRecursion HasSize pages → AllByRecursion (λ page. nat_le (thin_key page) (min room (2 ^ 64 - 2)) ≡ can_move room page) pages
-thin_keys room pages sizes = all_then HasSize (λ page. nat_le (thin_key page) (min room (2 ^ 64 - 2)) ≡ can_move room page) (λ page fits. key_by (bytes_of (pieces_of page)) (size_of page) room (is_held page) fits) pages sizes
+pub thin_keys : (room : ℕ) (pages : List Page) → AllByRecursion HasSize pages
+    → AllByRecursion (λ page. nat_le (thin_key page) (min room (2 ^ 64 - 2)) ≡ can_move room page) pages
+thin_keys room pages sizes = all_then HasSize (λ page. nat_le (thin_key page) (min room (2 ^ 64 - 2)) ≡ can_move room page)
+    (λ page fits. key_by (bytes_of (pieces_of page)) (size_of page) room (is_held page) fits) pages sizes
 
 due_by : (due : Bool) → nat_le (cond due 0 1) 0 ≡ due
 due_by true = refl
@@ -60,7 +67,8 @@ released_size piece Torn = refl
 released_size piece (Whole size pieces) = refl
 released_size piece Asked = refl
 
-pub size_after : (pages : List Page) (place : ℕ) (page : Page) (piece : PieceNo) → AllByRecursion HasSize pages → place < length pages → page ≡ get_or pages place page → HasSize (released piece page)
+pub size_after : (pages : List Page) (place : ℕ) (page : Page) (piece : PieceNo) → AllByRecursion HasSize pages → place < length pages → page
+    ≡ get_or pages place page → HasSize (released piece page)
 size_after pages place page piece sizes inside is = rw (released_size piece page) (subst HasSize (sym is) (all_at HasSize pages place page inside sizes))
 
 -- no pieces are apart

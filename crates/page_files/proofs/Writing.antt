@@ -32,22 +32,26 @@ none_came : (now : Option (List Change)) (came : List ℕ) → IfSome now (λ _.
 none_came None came = tt
 none_came (Some changes) came = sym (append-nil came)
 
-came_more : (now later : Option (List Change)) (came more last front run : List ℕ) → later ≡ now → IfSome now (λ _. more ≡ came ++ front) → IfSome later (λ _. last ≡ more ++ run) → IfSome later (λ _. last ≡ came ++ (front ++ run))
+came_more : (now later : Option (List Change)) (came more last front run : List ℕ) → later ≡ now → IfSome now (λ _. more ≡ came ++ front)
+    → IfSome later (λ _. last ≡ more ++ run) → IfSome later (λ _. last ≡ came ++ (front ++ run))
 came_more None None came more last front run same one two = tt
 came_more None (Some changes) came more last front run same one two = cc
 came_more (Some changes) None came more last front run same one two = tt
 came_more (Some changes) (Some others) came more last front run same one two = two ∙ ap (λ list. list ++ run) one ∙ append_assoc came front run
 
-fits_more : (n m size : ℕ) (write : Option OpenWrite) → IsSomeAnd write (λ write. write.came + size ≤ write.len) → n + m ≡ size → IsSomeAnd (with_more n write) (λ write. write.came + m ≤ write.len)
+fits_more : (n m size : ℕ) (write : Option OpenWrite) → IsSomeAnd write (λ write. write.came + size ≤ write.len) → n + m ≡ size → IsSomeAnd (with_more n write)
+    (λ write. write.came + m ≤ write.len)
 fits_more n m size None fits sum = fits
 fits_more n m size (Some write) fits sum = omega (arith, fits, sum)
 
 -- there is room for a front of what has room
-pub fits_less : (n size : ℕ) (write : Option OpenWrite) → n ≤ size → IsSomeAnd write (λ write. write.came + size ≤ write.len) → IsSomeAnd write (λ write. write.came + n ≤ write.len)
+pub fits_less : (n size : ℕ) (write : Option OpenWrite) → n ≤ size → IsSomeAnd write (λ write. write.came + size ≤ write.len)
+    → IsSomeAnd write (λ write. write.came + n ≤ write.len)
 fits_less n size None less fits = fits
 fits_less n size (Some write) less fits = omega (arith, less, fits)
 
-pub appended_none : (write : Option OpenWrite) (told : Option (List Change)) (came bytes : List ℕ) → IsSomeAnd write (λ write. write.came + length bytes ≤ write.len) → Appended write write told told came came bytes bytes
+pub appended_none : (write : Option OpenWrite) (told : Option (List Change)) (came bytes : List ℕ)
+    → IsSomeAnd write (λ write. write.came + length bytes ≤ write.len) → Appended write write told told came came bytes bytes
 appended_none write told came bytes fits = record {
   front = [];
   whole = refl;
@@ -67,7 +71,8 @@ appended_run old mid new told now later came more last bytes rest run after so c
     record {
       front = so.front ++ run;
       whole = so.whole ∙ ap (λ list. so.front ++ list) cut ∙ sym (append_assoc so.front run after);
-      write = write ∙ ap (with_more (length run)) so.write ∙ more_more (length so.front) (length run) old ∙ ap (λ n. with_more n old) (sym (length-append so.front run));
+      write = write ∙ ap (with_more (length run)) so.write ∙ more_more (length so.front) (length run) old ∙ ap (λ n. with_more n old)
+          (sym (length-append so.front run));
       fits = rw write (fits_more (length run) (length after) (length rest) mid so.fits size);
       same = same ∙ so.same;
       last = came_more now later came more last so.front run same so.last came_so;
@@ -79,7 +84,8 @@ pub record AppendedAll (old new : Option OpenWrite) (told now : Option (List Cha
   pub same : now ≡ told
   pub last : IfSome now (λ _. more ≡ came ++ bytes)
 
-pub appended_all : (old new : Option OpenWrite) (told now : Option (List Change)) (came more bytes rest : List ℕ) → Appended old new told now came more bytes rest → rest ≡ [] → AppendedAll old new told now came more bytes
+pub appended_all : (old new : Option OpenWrite) (told now : Option (List Change)) (came more bytes rest : List ℕ) → Appended old new told now came more bytes
+    rest → rest ≡ [] → AppendedAll old new told now came more bytes
 appended_all old new told now came more bytes rest so none =
     let whole : bytes ≡ so.front = so.whole ∙ ap (λ list. so.front ++ list) none ∙ append-nil so.front in
     record {
@@ -112,6 +118,7 @@ added_more old mid new told now later came more last count size bytes run so wri
 }
 
 -- there is room for one piece more
-pub room_for : (n m size : ℕ) (write mid : Option OpenWrite) → IsSomeAnd write (λ write. write.came + size ≤ write.len) → mid ≡ with_more n write → n + m ≤ size → IsSomeAnd mid (λ write. write.came + m ≤ write.len)
+pub room_for : (n m size : ℕ) (write mid : Option OpenWrite) → IsSomeAnd write (λ write. write.came + size ≤ write.len) → mid ≡ with_more n write → n + m ≤ size
+    → IsSomeAnd mid (λ write. write.came + m ≤ write.len)
 room_for n m size None mid fits is sum = absurd fits
 room_for n m size (Some write) mid fits is sum = rw is (omega (arith, fits, sum))

@@ -17,7 +17,8 @@ use Rattle.page_files.specs.declared.page.Page.TheVariants.{Asked}
 use Rattle.page_files.specs.Pieces.{bytes_of, numbers, without, HasBytes}
 use Rattle.page_files.specs.Pages.{can_move, is_unasked, page_at, page_charge, released_at}
 
--- the bytes that may be charged, the pages by their numbers, the bytes reserved, the job in flight, whether pieces may still be paged, and how many jobs were started
+-- the bytes that may be charged, the pages by their numbers, the bytes reserved, the job in flight, whether pieces may still be paged, and how many jobs were
+-- started
 pub record Files : Type 0 where
   pub limit : ℕ
   pub pages : List Page

@@ -54,16 +54,20 @@ open_is P refuses group is = (elim (is_sound group) as (λ r. is_sound group ≡
 ]) refl is
 
 -- what the calls of a volume ask for
-pub can_begin : (page : ℕ) (group : Group.Group) → Good group → group.write ≡ None → IfSome (changes_of group) (IsNew page) → IsSomeAnd (object_at group.slots (writer_of group.slots)) (λ seen. (seen.write ≡ None) × HasNone page seen)
+pub can_begin : (page : ℕ) (group : Group.Group) → Good group → group.write ≡ None → IfSome (changes_of group) (IsNew page)
+    → IsSomeAnd (object_at group.slots (writer_of group.slots)) (λ seen. (seen.write ≡ None) × HasNone page seen)
 can_begin page group good closed new = let so = closed_good group closed good in
     some_weaker (λ seen. is_as_noted group.log None (Some seen) ≡ true) (λ seen. (seen.write ≡ None) × HasNone page seen)
-    (λ seen is. let parts = both (is_write None seen.write) (are_told None group.log seen.told) is in (write_is None seen.write parts.0, by group.log new seen.told parts.1))
+    (λ seen is. let parts = both (is_write None seen.write) (are_told None group.log seen.told) is in
+    (write_is None seen.write parts.0, by group.log new seen.told parts.1))
     (object_at group.slots (writer_of group.slots)) (writer_noted group.log None group.slots group.files so.placed so.holds)
   where
-    by : (log : Option Log) → IfSome (option_map (λ (log : Log). log.changes) log) (IsNew page) → (told : Option Told) → are_told None log told ≡ true → IfSome (option_map (λ (told : Told). file_of page told.files) told) (λ file. file ≡ None)
+    by : (log : Option Log) → IfSome (option_map (λ (log : Log). log.changes) log) (IsNew page) → (told : Option Told) → are_told None log told ≡ true
+        → IfSome (option_map (λ (told : Told). file_of page told.files) told) (λ file. file ≡ None)
     by log new None is = tt
     by None new (Some told) is = absurd (cc is)
-    by (Some log) new (Some told) is = no_file log.changes page told.files new (both (list_all (λ (file : PageFile). list_any (writes file.page) log.changes) told.files) true is).0
+    by (Some log) new (Some told) is = no_file log.changes page told.files new
+        (both (list_all (λ (file : PageFile). list_any (writes file.page) log.changes) told.files) true is).0
 
 pub can_write : (group : Group.Group) → Good group → IsSomeAnd (object_at group.slots (writer_of group.slots)) (λ seen. seen.write ≡ group.write)
 can_write group good = some_weaker (λ seen. is_as_noted group.log group.write (Some seen) ≡ true) (λ seen. seen.write ≡ group.write)
@@ -71,18 +75,23 @@ can_write group good = some_weaker (λ seen. is_as_noted group.log group.write (
     (object_at group.slots (writer_of group.slots)) (writer_noted group.log group.write group.slots group.files good.placed good.holds)
 
 -- the file of a page is where it is noted to be
-there_found : (changes : List Change) (slots : List Slot) (page k : ℕ) (files : List Filed) → There changes slots files → home_of page files ≡ Some (Some k) → noted_at page changes slots k ≡ true
+there_found : (changes : List Change) (slots : List Slot) (page k : ℕ) (files : List Filed) → There changes slots files → home_of page files ≡ Some (Some k)
+    → noted_at page changes slots k ≡ true
 there_found changes slots page k [] so is = cc
-there_found changes slots page k (file ∷ files) so is = (elim (page == file.page.0) as (λ r. (page == file.page.0) ≡ r → (if r then Some file.home else home_of page files) ≡ Some (Some k) → noted_at page changes slots k ≡ true) [
-  | true ↦ λ same is. let home : file.home ≡ Some k = cc in
-      subst (λ one. noted_at one changes slots k ≡ true) (sym (eqb-true page file.page.0 same))
-      (subst (λ home. option_map_or (noted_at file.page.0 changes slots) home true ≡ true) home (both (is_there changes slots file) (list_all (is_there changes slots) files) so).0)
-  | false ↦ λ apart is. there_found changes slots page k files (both (is_there changes slots file) (list_all (is_there changes slots) files) so).1 is
-]) refl is
+there_found changes slots page k (file ∷ files) so is =
+    (elim (page == file.page.0) as (λ r. (page == file.page.0) ≡ r → (if r then Some file.home else home_of page files) ≡ Some (Some k)
+    → noted_at page changes slots k ≡ true) [
+      | true ↦ λ same is. let home : file.home ≡ Some k = cc in
+          subst (λ one. noted_at one changes slots k ≡ true) (sym (eqb-true page file.page.0 same))
+          (subst (λ home. option_map_or (noted_at file.page.0 changes slots) home true ≡ true) home
+          (both (is_there changes slots file) (list_all (is_there changes slots) files) so).0)
+      | false ↦ λ apart is. there_found changes slots page k files (both (is_there changes slots file) (list_all (is_there changes slots) files) so).1 is
+    ]) refl is
 
 -- a volume on which a file stands is held
 pub home_held : (page k : ℕ) (group : Group.Group) → Good group → place_of page group.files ≡ Some k → IsSome (object_at group.slots k)
-home_held page k group good is = by (slice_get group.slots k) refl (good.placed.held k) (subst (λ home. IfSome home (λ k. k < length group.slots)) is (good.placed.homes page))
+home_held page k group good is = by (slice_get group.slots k) refl (good.placed.held k)
+    (subst (λ home. IfSome home (λ k. k < length group.slots)) is (good.placed.homes page))
   where
     or_true : (r : Bool) → (r || true) ≡ true
     or_true true = refl
@@ -93,7 +102,8 @@ home_held page k group good is = by (slice_get group.slots k) refl (good.placed.
     past (slot ∷ slots) zero none within = cc none
     past (slot ∷ slots) (suc k) none within = past slots k none (omega arith)
 
-    by : (found : Option Slot) → slice_get group.slots k ≡ found → IfSome found (λ slot. is_some slot.object ≡ (not slot.is_retired || has_files k group.files)) → k < length group.slots → IsSome (option_and_then (λ (slot : Slot). slot.object) found)
+    by : (found : Option Slot) → slice_get group.slots k ≡ found → IfSome found (λ slot. is_some slot.object ≡ (not slot.is_retired || has_files k group.files))
+        → k < length group.slots → IsSome (option_and_then (λ (slot : Slot). slot.object) found)
     by None none held within = absurd (past group.slots k none within)
     by (Some slot) there held within = held ∙ ap (λ r. not slot.is_retired || r) (place_has page k group.files is) ∙ or_true (not slot.is_retired)
 
@@ -108,12 +118,14 @@ pub home_place : (page k : ℕ) (files : List Filed) → home_of page files ≡ 
 home_place page k files is = ap (λ home. option_and_then (λ home. home) home) is
 
 -- where nothing is told, nothing is asked
-told_none : (page : ℕ) (P : Option (Option (List ℕ)) → Type 0) (told : Option Told) → are_told None None told ≡ true → IfSome (option_map (λ (told : Told). file_of page told.files) told) P
+told_none : (page : ℕ) (P : Option (Option (List ℕ)) → Type 0) (told : Option Told) → are_told None None told ≡ true
+    → IfSome (option_map (λ (told : Told). file_of page told.files) told) P
 told_none page P None is = tt
 told_none page P (Some told) is = absurd (cc is)
 
 -- a file as it was put
-has_as_put : (put : Option (List ℕ)) (page : ℕ) (object : Option Seen) (changes : List Change) → last_put page changes ≡ put → has_at page changes object ≡ true → IsSomeAnd object (λ seen. IfSome (told_of page seen) (λ file. file ≡ Some put))
+has_as_put : (put : Option (List ℕ)) (page : ℕ) (object : Option Seen) (changes : List Change) → last_put page changes ≡ put → has_at page changes object ≡ true
+    → IsSomeAnd object (λ seen. IfSome (told_of page seen) (λ file. file ≡ Some put))
 has_as_put put page None changes last is = cc is
 has_as_put put page (Some seen) changes last is = by (told_of page seen) (subst (λ put. option_map_or (is_put put) (told_of page seen) true ≡ true) last is)
   where
@@ -144,10 +156,14 @@ put_written page changes P has = (elim (list_any (writes page) changes) as (λ r
 abbrev pub HasPut : ℕ → Log → Seen → Type 0
 HasPut page log seen = (seen.write ≡ None) × IsSomeAnd (told_of page seen) (λ file. file ≡ Some (last_put page log.changes))
 
-has_put_of : (page : ℕ) (log : Log) (seen : Seen) → is_as_noted (Some log) None (Some seen) ≡ true → IfSome (told_of page seen) (λ file. file ≡ Some (last_put page log.changes)) → HasPut page log seen
-has_put_of page log seen noted file = let parts = both (is_write None seen.write) (are_told None (Some log) seen.told) noted in (write_is None seen.write parts.0, by seen.told parts.1 file)
+has_put_of : (page : ℕ) (log : Log) (seen : Seen) → is_as_noted (Some log) None (Some seen) ≡ true → IfSome (told_of page seen)
+    (λ file. file ≡ Some (last_put page log.changes)) → HasPut page log seen
+has_put_of page log seen noted file = let parts = both (is_write None seen.write) (are_told None (Some log) seen.told) noted in
+    (write_is None seen.write parts.0, by seen.told parts.1 file)
   where
-    by : (told : Option Told) → are_told None (Some log) told ≡ true → IfSome (option_map (λ (told : Told). file_of page told.files) told) (λ file. file ≡ Some (last_put page log.changes)) → IsSomeAnd (option_map (λ (told : Told). file_of page told.files) told) (λ file. file ≡ Some (last_put page log.changes))
+    by : (told : Option Told) → are_told None (Some log) told ≡ true → IfSome (option_map (λ (told : Told). file_of page told.files) told)
+        (λ file. file ≡ Some (last_put page log.changes)) → IsSomeAnd (option_map (λ (told : Told). file_of page told.files) told)
+        (λ file. file ≡ Some (last_put page log.changes))
     by None is file = absurd (cc is)
     by (Some told) is file = file
 
@@ -160,34 +176,43 @@ pub record IsAsked (page : ℕ) (group : Group.Group) (log : Log) : Type 0 where
 some_home : {j k : ℕ} → Some (Some j) ≡ Some (Some k) → j ≡ k
 some_home is = cc
 
-asked_of : (page : ℕ) (group : Group.Group) (log : Log) → group.log ≡ Some log → Parts group.log None group.slots group.files → Good group → (home : Option (Option ℕ)) → home_of page group.files ≡ home → IsSome home → (home ≡ Some None → ⊥) → IsAsked page group log
+asked_of : (page : ℕ) (group : Group.Group) (log : Log) → group.log ≡ Some log → Parts group.log None group.slots group.files → Good group
+    → (home : Option (Option ℕ)) → home_of page group.files ≡ home → IsSome home → (home ≡ Some None → ⊥) → IsAsked page group log
 asked_of page group log is so good None at some whole = absurd (cc some)
 asked_of page group log is so good (Some None) at some whole = absurd (whole refl)
 asked_of page group log is so good (Some (Some k)) at some whole = record {
   k = k;
   home = at;
-  has = some_weaker (λ seen. (is_as_noted group.log None (Some seen) ≡ true) × IfSome (told_of page seen) (λ file. file ≡ Some (last_put page log.changes))) (HasPut page log)
+  has = some_weaker (λ seen. (is_as_noted group.log None (Some seen) ≡ true) × IfSome (told_of page seen) (λ file. file ≡ Some (last_put page log.changes)))
+      (HasPut page log)
       (λ seen one. has_put_of page log seen (subst (λ log. is_as_noted log None (Some seen) ≡ true) is one.0) one.1) (object_at group.slots k)
-      (both_so (λ seen. is_as_noted group.log None (Some seen) ≡ true) (λ seen. IfSome (told_of page seen) (λ file. file ≡ Some (last_put page log.changes))) (object_at group.slots k)
+      (both_so (λ seen. is_as_noted group.log None (Some seen) ≡ true) (λ seen. IfSome (told_of page seen) (λ file. file ≡ Some (last_put page log.changes)))
+      (object_at group.slots k)
       (any_noted group.log group.slots group.files k (home_held page k group good (home_place page k group.files at)) so.holds)
       (has_as_put (last_put page log.changes) page (object_at group.slots k) log.changes refl
-      (both (list_any (writes page) log.changes) (has_at page log.changes (object_at group.slots k)) (there_found log.changes group.slots page k group.files (subst (λ log. IfSome log (λ (log : Log). There log.changes group.slots group.files)) is so.holds.there) at)).1));
+      (both (list_any (writes page) log.changes) (has_at page log.changes (object_at group.slots k))
+      (there_found log.changes group.slots page k group.files
+      (subst (λ log. IfSome log (λ (log : Log). There log.changes group.slots group.files)) is so.holds.there) at)).1));
 }
 
 pub asked_group : (page k : ℕ) (group : Group.Group) → home_of page group.files ≡ Some (Some k) → k ≡ Group.asked_at page group
 asked_group page k group is = sym (ap (λ home. unwrap_or (option_and_then (λ home. home) home) (writer_of group.slots)) is)
 
-pub asked_range : (page off len : ℕ) (group : Group.Group) (log : Log) → group.log ≡ Some log → Good group → group.write ≡ None → HasRange page off len log.changes → IsAsked page group log
+pub asked_range : (page off len : ℕ) (group : Group.Group) (log : Log) → group.log ≡ Some log → Good group → group.write ≡ None
+    → HasRange page off len log.changes → IsAsked page group log
 asked_range page off len group log is good closed range =
     let so = closed_good group closed good in
     let logged = subst (λ log. IfSome log (λ (log : Log). Logged None group.files log.changes)) is so.logged in
     asked_of page group log is so good (home_of page group.files) refl (logged.known page (put_written page log.changes _ range.0, range.1))
     (λ gone. subst (λ put. IsSomeAnd put (λ bytes. off + len ≤ length bytes)) (logged.gone page gone) range.0)
 
-held_none : (page : ℕ) (P : Option (Option (List ℕ)) → Type 0) (k : ℕ) (group : Group.Group) → group.log ≡ None → Parts group.log None group.slots group.files → IsSome (object_at group.slots k)
+held_none : (page : ℕ) (P : Option (Option (List ℕ)) → Type 0) (k : ℕ) (group : Group.Group) → group.log ≡ None → Parts group.log None group.slots group.files
+    → IsSome (object_at group.slots k)
     → IsSomeAnd (object_at group.slots k) (λ seen. (seen.write ≡ None) × IfSome (told_of page seen) P)
-held_none page P k group is so some = some_weaker (λ seen. is_as_noted group.log None (Some seen) ≡ true) (λ seen. (seen.write ≡ None) × IfSome (told_of page seen) P)
-    (λ seen noted. let parts = both (is_write None seen.write) (are_told None group.log seen.told) noted in (write_is None seen.write parts.0, told_none page P seen.told (subst (λ log. are_told None log seen.told ≡ true) is parts.1)))
+held_none page P k group is so some = some_weaker (λ seen. is_as_noted group.log None (Some seen) ≡ true)
+    (λ seen. (seen.write ≡ None) × IfSome (told_of page seen) P)
+    (λ seen noted. let parts = both (is_write None seen.write) (are_told None group.log seen.told) noted in
+    (write_is None seen.write parts.0, told_none page P seen.told (subst (λ log. are_told None log seen.told ≡ true) is parts.1)))
     (object_at group.slots k) (any_noted group.log group.slots group.files k some so.holds)
 
 -- whoever is asked for bytes is held
@@ -202,19 +227,24 @@ pub can_get : (page off len : ℕ) (group : Group.Group) → Good group → grou
     → IsSomeAnd (object_at group.slots (Group.asked_at page group)) (λ seen. (seen.write ≡ None) × HasBytes page off len seen)
 can_get page off len group good closed range = by group.log refl range
   where
-    file : (log : Log) → HasRange page off len log.changes → (found : Option (Option (Option (List ℕ)))) → IsSomeAnd found (λ file. file ≡ Some (last_put page log.changes)) → IfSome found (λ file. IsSomeAnd file (λ whole. IsSomeAnd whole (λ bytes. off + len ≤ length bytes)))
+    file : (log : Log) → HasRange page off len log.changes → (found : Option (Option (Option (List ℕ))))
+        → IsSomeAnd found (λ file. file ≡ Some (last_put page log.changes))
+        → IfSome found (λ file. IsSomeAnd file (λ whole. IsSomeAnd whole (λ bytes. off + len ≤ length bytes)))
     file log range None so = tt
     file log range (Some found) so = subst (λ found. IsSomeAnd found (λ whole. IsSomeAnd whole (λ bytes. off + len ≤ length bytes))) (sym so) range.0
 
-    by : (log : Option Log) → group.log ≡ log → IfSome (option_map (λ (log : Log). log.changes) log) (HasRange page off len) → IsSomeAnd (object_at group.slots (Group.asked_at page group)) (λ seen. (seen.write ≡ None) × HasBytes page off len seen)
-    by None is range = held_none page (λ file. IsSomeAnd file (λ whole. IsSomeAnd whole (λ bytes. off + len ≤ length bytes))) (Group.asked_at page group) group is (closed_good group closed good) (asked_held page group good)
+    by : (log : Option Log) → group.log ≡ log → IfSome (option_map (λ (log : Log). log.changes) log) (HasRange page off len)
+        → IsSomeAnd (object_at group.slots (Group.asked_at page group)) (λ seen. (seen.write ≡ None) × HasBytes page off len seen)
+    by None is range = held_none page (λ file. IsSomeAnd file (λ whole. IsSomeAnd whole (λ bytes. off + len ≤ length bytes))) (Group.asked_at page group) group
+        is (closed_good group closed good) (asked_held page group good)
     by (Some log) is range =
         let asked = asked_range page off len group log is good closed range in
         subst (λ k. IsSomeAnd (object_at group.slots k) (λ seen. (seen.write ≡ None) × HasBytes page off len seen)) (asked_group page asked.k group asked.home)
         (some_weaker (HasPut page log) (λ seen. (seen.write ≡ None) × HasBytes page off len seen)
         (λ seen so. (so.0, file log range (told_of page seen) so.1)) (object_at group.slots asked.k) asked.has)
 
-pub can_remove : (page : ℕ) (group : Group.Group) → Good group → group.write ≡ None → IfSome (changes_of group) (Stands page) → CanRemoveFrom page group.slots (home_of page group.files)
+pub can_remove : (page : ℕ) (group : Group.Group) → Good group → group.write ≡ None → IfSome (changes_of group) (Stands page) → CanRemoveFrom page group.slots
+    (home_of page group.files)
 can_remove page group good closed stands = by group.log refl stands
   where
     so : Parts group.log None group.slots group.files
@@ -225,11 +255,13 @@ can_remove page group good closed stands = by group.log refl stands
     untold is (Some None) at = tt
     untold is (Some (Some k)) at = held_none page (λ file. IsSome file) k group is so (home_held page k group good (home_place page k group.files at))
 
-    file : (log : Log) (found : Option (Option (Option (List ℕ)))) → IsSomeAnd found (λ file. file ≡ Some (last_put page log.changes)) → IfSome found (λ file. IsSome file)
+    file : (log : Log) (found : Option (Option (Option (List ℕ)))) → IsSomeAnd found (λ file. file ≡ Some (last_put page log.changes))
+        → IfSome found (λ file. IsSome file)
     file log None so = tt
     file log (Some found) so = subst (λ (found : Option (Option (List ℕ))). IsSome found) (sym so) refl
 
-    told : (log : Log) → group.log ≡ Some log → Stands page log.changes → (home : Option (Option ℕ)) → home_of page group.files ≡ home → CanRemoveFrom page group.slots home
+    told : (log : Log) → group.log ≡ Some log → Stands page log.changes → (home : Option (Option ℕ)) → home_of page group.files ≡ home
+        → CanRemoveFrom page group.slots home
     told log is stands None at =
         let logged = subst (λ log. IfSome log (λ (log : Log). Logged None group.files log.changes)) is so.logged in
         let clash : false ≡ true = subst (λ (home : Option (Option ℕ)). IsSome home) at (logged.known page stands) in
@@ -241,12 +273,14 @@ can_remove page group good closed stands = by group.log refl stands
         subst (λ k. CanRemoveAt page group.slots k) same (some_weaker (HasPut page log) (λ seen. (seen.write ≡ None) × HasFile page seen)
         (λ seen so. (so.0, file log (told_of page seen) so.1)) (object_at group.slots asked.k) asked.has)
 
-    by : (log : Option Log) → group.log ≡ log → IfSome (option_map (λ (log : Log). log.changes) log) (Stands page) → CanRemoveFrom page group.slots (home_of page group.files)
+    by : (log : Option Log) → group.log ≡ log → IfSome (option_map (λ (log : Log). log.changes) log) (Stands page) → CanRemoveFrom page group.slots
+        (home_of page group.files)
     by None is stands = untold is (home_of page group.files) refl
     by (Some log) is stands = told log is stands (home_of page group.files) refl
 
 -- a page whose removal may be asked is filed, where changes are told
-pub filed_told : (page : ℕ) (group : Group.Group) → Good group → group.write ≡ None → IfSome (changes_of group) (Stands page) → home_of page group.files ≡ None → group.log ≡ None
+pub filed_told : (page : ℕ) (group : Group.Group) → Good group → group.write ≡ None → IfSome (changes_of group) (Stands page) → home_of page group.files ≡ None
+    → group.log ≡ None
 filed_told page group good closed stands none = by group.log refl stands
   where
     by : (log : Option Log) → group.log ≡ log → IfSome (option_map (λ (log : Log). log.changes) log) (Stands page) → log ≡ None

@@ -32,24 +32,29 @@ fresh_noted is_telling seen fresh =
     none [] is = refl
     none (file ∷ files) is = absurd (cc is)
 
-    by : (is_telling : Bool) (told : Option Told) → option_map_or (λ (told : Told). is_telling && are_none told.files) told (not is_telling) ≡ true → are_told None (fresh_log is_telling) told ≡ true
+    by : (is_telling : Bool) (told : Option Told) → option_map_or (λ (told : Told). is_telling && are_none told.files) told (not is_telling) ≡ true
+        → are_told None (fresh_log is_telling) told ≡ true
     by true None is = absurd (cc is)
     by true (Some told) is = and_of (list_all (λ (file : PageFile). list_any (writes file.page) []) told.files) true (none told.files is) refl
     by false None is = refl
     by false (Some told) is = absurd (cc is)
 
-fresh_passes : (is_telling : Bool) (objects : List Seen) → list_all (is_fresh is_telling) objects ≡ true → each_passes (λ write slot. is_as_noted (fresh_log is_telling) write slot.object) None (new_slots objects) ≡ true
+fresh_passes : (is_telling : Bool) (objects : List Seen) → list_all (is_fresh is_telling) objects ≡ true
+    → each_passes (λ write slot. is_as_noted (fresh_log is_telling) write slot.object) None (new_slots objects) ≡ true
 fresh_passes is_telling [] all = refl
 fresh_passes is_telling (seen ∷ objects) all =
     let parts = both (is_fresh is_telling seen) (list_all (is_fresh is_telling) objects) all in
-    and_of (is_as_noted (fresh_log is_telling) None (Some seen)) (each_passes (λ write slot. is_as_noted (fresh_log is_telling) write slot.object) None (new_slots objects))
+    and_of (is_as_noted (fresh_log is_telling) None (Some seen))
+    (each_passes (λ write slot. is_as_noted (fresh_log is_telling) write slot.object) None (new_slots objects))
     (fresh_noted is_telling seen parts.0) (fresh_passes is_telling objects parts.1)
 
-pub new_good : (objects : List Seen) (is_telling : Bool) → 0 < length objects → list_all (is_fresh is_telling) objects ≡ true → Good (new_group objects (if is_telling then Some [] else None))
+pub new_good : (objects : List Seen) (is_telling : Bool) → 0 < length objects → list_all (is_fresh is_telling) objects ≡ true
+    → Good (new_group objects (if is_telling then Some [] else None))
 new_good objects is_telling some all = record {
   placed = record {
     writes = writes objects some;
-    held = λ k. subst (λ (found : Option Slot). IfSome found (λ slot. is_some slot.object ≡ (not slot.is_retired || has_files k []))) (sym (slice_get-map (λ (seen : Seen). record { object = Some seen; past = 0; is_retired = false }) objects k)) (held (slice_get objects k));
+    held = λ k. subst (λ (found : Option Slot). IfSome found (λ slot. is_some slot.object ≡ (not slot.is_retired || has_files k [])))
+        (sym (slice_get-map (λ (seen : Seen). record { object = Some seen; past = 0; is_retired = false }) objects k)) (held (slice_get objects k));
     homes = λ page. tt;
   };
   apart = tt;
@@ -62,7 +67,8 @@ new_good objects is_telling some all = record {
     writes [] some = absurd (omega arith)
     writes (seen ∷ objects) some = refl
 
-    held : (found : Option Seen) → IfSome (option_map (λ (seen : Seen). record { object = Some seen; past = 0; is_retired = false }) found) (λ (slot : Slot). is_some slot.object ≡ (not slot.is_retired || false))
+    held : (found : Option Seen) → IfSome (option_map (λ (seen : Seen). record { object = Some seen; past = 0; is_retired = false }) found)
+        (λ (slot : Slot). is_some slot.object ≡ (not slot.is_retired || false))
     held None = tt
     held (Some seen) = refl
 

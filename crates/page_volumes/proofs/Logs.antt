@@ -15,15 +15,18 @@ pub noted_told : (change : Change) (log : Option Kept) → option_map log_of (op
 noted_told change None = refl
 noted_told change (Some log) = refl
 
-pub started_told : (log : Option Kept) → option_map log_of (option_map started log) ≡ option_map (λ (log : Log). record log { came = [] }) (option_map log_of log)
+pub started_told : (log : Option Kept) → option_map log_of (option_map started log) ≡ option_map (λ (log : Log). record log { came = [] })
+    (option_map log_of log)
 started_told None = refl
 started_told (Some log) = refl
 
-pub taken_told : (bytes : List ℕ) (log : Option Kept) → option_map log_of (option_map (taken bytes) log) ≡ option_map (λ (log : Log). record log { came = log.came ++ bytes }) (option_map log_of log)
+pub taken_told : (bytes : List ℕ) (log : Option Kept) → option_map log_of (option_map (taken bytes) log)
+    ≡ option_map (λ (log : Log). record log { came = log.came ++ bytes }) (option_map log_of log)
 taken_told bytes None = refl
 taken_told bytes (Some log) = refl
 
-pub sealed_told : (page : PageNo) (log : Option Kept) → option_map log_of (option_map (sealed page) log) ≡ option_map (λ (log : Log). record { changes = log.changes ++ Put page log.came ∷ []; came = [] }) (option_map log_of log)
+pub sealed_told : (page : PageNo) (log : Option Kept) → option_map log_of (option_map (sealed page) log)
+    ≡ option_map (λ (log : Log). record { changes = log.changes ++ Put page log.came ∷ []; came = [] }) (option_map log_of log)
 sealed_told page None = refl
 sealed_told page (Some log) = refl
 

@@ -26,7 +26,8 @@ pub no_whole : no_write.came ≡ no_write.len → ⊥
 no_whole whole = omega arith
 
 -- what an array keeps, of its volumes as they are seen
-pub good_of : {X : Type 0} (seen : X → Seen) (members : Members X) → Keeps (plain members) → is_sound (of_members seen members) ≡ true → Good (of_members seen members)
+pub good_of : {X : Type 0} (seen : X → Seen) (members : Members X) → Keeps (plain members) → is_sound (of_members seen members) ≡ true
+    → Good (of_members seen members)
 good_of seen members keeps sound = parts_of (of_members seen members) (keeps_as (λ _. blank) seen members keeps) sound
 
 pub plain_of : {X : Type 0} (seen : X → Seen) (members : Members X) → Good (of_members seen members) → Keeps (plain members)

@@ -26,7 +26,8 @@ pub all_weaker : {X : Type 0} (p q : X → Bool) → ((x : X) → p x ≡ true �
 all_weaker p q weaker [] so = refl
 all_weaker p q weaker (x ∷ xs) so = and_of _ _ (weaker x (both _ _ so).0) (all_weaker p q weaker xs (both _ _ so).1)
 
-pub all_filter : {X : Type 0} (p q test : X → Bool) → ((x : X) → test x ≡ true → p x ≡ true → q x ≡ true) → (xs : List X) → list_all p xs ≡ true → list_all q (filter test xs) ≡ true
+pub all_filter : {X : Type 0} (p q test : X → Bool) → ((x : X) → test x ≡ true → p x ≡ true → q x ≡ true) → (xs : List X) → list_all p xs ≡ true
+    → list_all q (filter test xs) ≡ true
 all_filter p q test weaker [] so = refl
 all_filter p q test weaker (x ∷ xs) so = (elim (test x) as (λ r. test x ≡ r → list_all q (cond r (x ∷ filter test xs) (filter test xs)) ≡ true) [
   | true ↦ λ is. and_of _ _ (weaker x is (both _ _ so).0) (all_filter p q test weaker xs (both _ _ so).1)
@@ -58,29 +59,37 @@ pub same_bytes : (one other : List ℕ) → one ≡ other → bytes_eq one other
 same_bytes one other is = (bytes_eq-Decides one other).1 is
 
 -- the file of a page
-pub file_more : (page : ℕ) (files : List PageFile) (file : PageFile) → file_of page (files ++ file ∷ []) ≡ option_or (file_of page files) (file_of page (file ∷ []))
+pub file_more : (page : ℕ) (files : List PageFile) (file : PageFile) → file_of page (files ++ file ∷ []) ≡ option_or (file_of page files)
+    (file_of page (file ∷ []))
 file_more page [] file = refl
-file_more page (first ∷ files) file = (elim (page == first.page) as (λ r. (if r then Some first.bytes else file_of page (files ++ file ∷ [])) ≡ option_or (if r then Some first.bytes else file_of page files) (file_of page (file ∷ []))) [
-  | true ↦ refl
-  | false ↦ file_more page files file
-])
+file_more page (first ∷ files) file =
+    (elim (page == first.page) as (λ r. (if r then Some first.bytes else file_of page (files ++ file ∷ []))
+    ≡ option_or (if r then Some first.bytes else file_of page files) (file_of page (file ∷ []))) [
+      | true ↦ refl
+      | false ↦ file_more page files file
+    ])
 
 pub file_without : (page other : ℕ) (files : List PageFile) → (other == page) ≡ false → file_of other (without page files) ≡ file_of other files
 file_without page other [] apart = refl
-file_without page other (file ∷ files) apart = (elim (page == file.page) as (λ r. (page == file.page) ≡ r → file_of other (cond (not r) (file ∷ without page files) (without page files)) ≡ file_of other (file ∷ files)) [
-  | true ↦ λ is. let same : page ≡ file.page = eqb-true page file.page is in rw (ap (λ one. other == one) (sym same) ∙ apart) (file_without page other files apart)
-  | false ↦ λ is. ap (λ rest. if other == file.page then Some file.bytes else rest) (file_without page other files apart)
-]) refl
+file_without page other (file ∷ files) apart =
+    (elim (page == file.page) as (λ r. (page == file.page) ≡ r → file_of other (cond (not r) (file ∷ without page files) (without page files))
+    ≡ file_of other (file ∷ files)) [
+      | true ↦ λ is. let same : page ≡ file.page = eqb-true page file.page is in
+          rw (ap (λ one. other == one) (sym same) ∙ apart) (file_without page other files apart)
+      | false ↦ λ is. ap (λ rest. if other == file.page then Some file.bytes else rest) (file_without page other files apart)
+    ]) refl
 
 -- a page of which nothing was written has no file
-pub no_file : (changes : List Change) (page : ℕ) (files : List PageFile) → list_any (writes page) changes ≡ false → list_all (λ (file : PageFile). list_any (writes file.page) changes) files ≡ true → file_of page files ≡ None
+pub no_file : (changes : List Change) (page : ℕ) (files : List PageFile) → list_any (writes page) changes ≡ false
+    → list_all (λ (file : PageFile). list_any (writes file.page) changes) files ≡ true → file_of page files ≡ None
 no_file changes page [] new so = refl
-no_file changes page (file ∷ files) new so = (elim (page == file.page) as (λ r. (page == file.page) ≡ r → (if r then Some file.bytes else file_of page files) ≡ None) [
-  | true ↦ λ is. let written = (both (list_any (writes file.page) changes) (list_all (λ (file : PageFile). list_any (writes file.page) changes) files) so).0 in
-      let none = subst (λ one. list_any (writes one) changes ≡ false) (eqb-true page file.page is) new in
-      let no : true ≡ false = sym written ∙ none in absurd (cc no)
-  | false ↦ λ is. no_file changes page files new (both _ _ so).1
-]) refl
+no_file changes page (file ∷ files) new so =
+    (elim (page == file.page) as (λ r. (page == file.page) ≡ r → (if r then Some file.bytes else file_of page files) ≡ None) [
+      | true ↦ λ is. let written = (both (list_any (writes file.page) changes) (list_all (λ (file : PageFile). list_any (writes file.page) changes) files) so).0 in
+          let none = subst (λ one. list_any (writes one) changes ≡ false) (eqb-true page file.page is) new in
+          let no : true ≡ false = sym written ∙ none in absurd (cc no)
+      | false ↦ λ is. no_file changes page files new (both _ _ so).1
+    ]) refl
 
 -- and no bytes
 pub nothing_put : (page : ℕ) (changes : List Change) → list_any (writes page) changes ≡ false → last_put page changes ≡ None
@@ -98,7 +107,8 @@ nothing_put page (change ∷ changes) new = let parts = neither _ _ new in rw (n
     by (Left one) is = refl
 
 -- what was written stays so
-pub written_more : (page : ℕ) (changes : List Change) (change : Change) → list_any (writes page) changes ≡ true → list_any (writes page) (changes ++ change ∷ []) ≡ true
+pub written_more : (page : ℕ) (changes : List Change) (change : Change) → list_any (writes page) changes ≡ true → list_any (writes page)
+    (changes ++ change ∷ []) ≡ true
 written_more page changes change is = list_any-append (writes page) changes (change ∷ []) ∙ rw is refl
 
 pub written_now : (page : ℕ) (changes : List Change) (change : Change) → writes page change ≡ true → list_any (writes page) (changes ++ change ∷ []) ≡ true
@@ -137,21 +147,25 @@ noted_more old new grows (Some seen) so = let parts = both (is_write None seen.w
     by (Some old) (Some new) grows (Some told) so =
         let parts = both (list_all (λ (file : PageFile). list_any (writes file.page) old.changes) told.files) true so in
         and_of (list_all (λ (file : PageFile). list_any (writes file.page) new.changes) told.files) true
-        (all_weaker (λ (file : PageFile). list_any (writes file.page) old.changes) (λ (file : PageFile). list_any (writes file.page) new.changes) (λ file is. grows file.page is) told.files parts.0) refl
+        (all_weaker (λ (file : PageFile). list_any (writes file.page) old.changes) (λ (file : PageFile). list_any (writes file.page) new.changes)
+        (λ file is. grows file.page is) told.files parts.0) refl
 
 abbrev written : List Change → List PageFile → Bool
 written changes files = list_all (λ (file : PageFile). list_any (writes file.page) changes) files
 
 -- its writer begins a write
 pub noted_begun : (log : Option Log) (page : PageNo) (len : ℕ) (object : Option Seen) → is_as_noted log None object ≡ true
-    → is_as_noted (option_map (λ (one : Log). record one { came = [] }) log) (Some (record { page = page; len = len; came = 0 })) (option_map (volume.begun page len) object) ≡ true
+    → is_as_noted (option_map (λ (one : Log). record one { came = [] }) log) (Some (record { page = page; len = len; came = 0 }))
+    (option_map (volume.begun page len) object) ≡ true
 noted_begun log page len None so = refl
 noted_begun log page len (Some seen) so = let parts = both (is_write None seen.write) (are_told None log seen.told) so in
     let write : Option OpenWrite = Some (record { page = page; len = len; came = 0 }) in
-    and_of (is_write write write) (are_told write (option_map (λ (one : Log). record one { came = [] }) log) (option_map (λ (told : Told). record told { came = [] }) seen.told)) (write_same write) (by log seen.told parts.1)
+    and_of (is_write write write) (are_told write (option_map (λ (one : Log). record one { came = [] }) log)
+    (option_map (λ (told : Told). record told { came = [] }) seen.told)) (write_same write) (by log seen.told parts.1)
   where
     by : (log : Option Log) (told : Option Told) → are_told None log told ≡ true
-        → are_told (Some (record { page = page; len = len; came = 0 })) (option_map (λ (one : Log). record one { came = [] }) log) (option_map (λ (told : Told). record told { came = [] }) told) ≡ true
+        → are_told (Some (record { page = page; len = len; came = 0 })) (option_map (λ (one : Log). record one { came = [] }) log)
+        (option_map (λ (told : Told). record told { came = [] }) told) ≡ true
     by None None so = refl
     by None (Some told) so = absurd (cc so)
     by (Some log) None so = absurd (cc so)
@@ -159,16 +173,21 @@ noted_begun log page len (Some seen) so = let parts = both (is_write None seen.w
 
 -- bytes come to it
 pub noted_longer : (log : Option Log) (bytes : List ℕ) (write : Option OpenWrite) (object : Option Seen) → is_as_noted log write object ≡ true
-    → is_as_noted (option_map (λ (one : Log). record one { came = one.came ++ bytes }) log) (with_more (length bytes) write) (option_map (volume.longer bytes) object) ≡ true
+    → is_as_noted (option_map (λ (one : Log). record one { came = one.came ++ bytes }) log) (with_more (length bytes) write)
+    (option_map (volume.longer bytes) object) ≡ true
 noted_longer log bytes write None so = refl
 noted_longer log bytes write (Some seen) so = let parts = both (is_write write seen.write) (are_told write log seen.told) so in
     let same = write_is write seen.write parts.0 in
-    and_of (is_write (with_more (length bytes) write) (with_more (length bytes) seen.write)) (are_told (with_more (length bytes) write) (option_map (λ (one : Log). record one { came = one.came ++ bytes }) log) (option_map (λ (told : Told). record told { came = told.came ++ bytes }) seen.told))
-    (subst (λ (one : Option OpenWrite). is_write (with_more (length bytes) write) (with_more (length bytes) one) ≡ true) (sym same) (write_same (with_more (length bytes) write)))
+    and_of (is_write (with_more (length bytes) write) (with_more (length bytes) seen.write))
+    (are_told (with_more (length bytes) write) (option_map (λ (one : Log). record one { came = one.came ++ bytes }) log)
+    (option_map (λ (told : Told). record told { came = told.came ++ bytes }) seen.told))
+    (subst (λ (one : Option OpenWrite). is_write (with_more (length bytes) write) (with_more (length bytes) one) ≡ true) (sym same)
+    (write_same (with_more (length bytes) write)))
     (by write log seen.told parts.1)
   where
     by : (write : Option OpenWrite) (log : Option Log) (told : Option Told) → are_told write log told ≡ true
-        → are_told (with_more (length bytes) write) (option_map (λ (one : Log). record one { came = one.came ++ bytes }) log) (option_map (λ (told : Told). record told { came = told.came ++ bytes }) told) ≡ true
+        → are_told (with_more (length bytes) write) (option_map (λ (one : Log). record one { came = one.came ++ bytes }) log)
+        (option_map (λ (told : Told). record told { came = told.came ++ bytes }) told) ≡ true
     by write None None so = refl
     by write None (Some told) so = absurd (cc so)
     by write (Some log) None so = absurd (cc so)
@@ -179,19 +198,23 @@ noted_longer log bytes write (Some seen) so = let parts = both (is_write write s
         (same_bytes (log.came ++ bytes) (told.came ++ bytes) (ap (λ came. came ++ bytes) (bytes_same log.came told.came parts.1)))
 
 -- a file more is of a page that was written
-more_written : (changes : List Change) (change : Change) (files : List PageFile) (file : PageFile) → writes file.page change ≡ true → written changes files ≡ true → written (changes ++ change ∷ []) (files ++ file ∷ []) ≡ true
+more_written : (changes : List Change) (change : Change) (files : List PageFile) (file : PageFile) → writes file.page change ≡ true → written changes files
+    ≡ true → written (changes ++ change ∷ []) (files ++ file ∷ []) ≡ true
 more_written changes change files file is so = all_append (λ (one : PageFile). list_any (writes one.page) (changes ++ change ∷ [])) files (file ∷ [])
-    (all_weaker (λ (one : PageFile). list_any (writes one.page) changes) (λ (one : PageFile). list_any (writes one.page) (changes ++ change ∷ [])) (λ one is. written_more one.page changes change is) files so)
+    (all_weaker (λ (one : PageFile). list_any (writes one.page) changes) (λ (one : PageFile). list_any (writes one.page) (changes ++ change ∷ []))
+    (λ one is. written_more one.page changes change is) files so)
     (and_of (list_any (writes file.page) (changes ++ change ∷ [])) true (written_now file.page changes change is) refl)
 
 -- it ends well
 pub noted_put : (log : Option Log) (page : PageNo) (write : Option OpenWrite) (object : Option Seen) → is_as_noted log write object ≡ true
-    → is_as_noted (option_map (λ (log : Log). record { changes = log.changes ++ Put page log.came ∷ []; came = [] }) log) None (option_map (volume.put page.0) object) ≡ true
+    → is_as_noted (option_map (λ (log : Log). record { changes = log.changes ++ Put page log.came ∷ []; came = [] }) log) None
+    (option_map (volume.put page.0) object) ≡ true
 noted_put log page write None so = refl
 noted_put log page write (Some seen) so = by log seen.told (both (is_write write seen.write) (are_told write log seen.told) so).1
   where
     by : (log : Option Log) (told : Option Told) → are_told write log told ≡ true
-        → are_told None (option_map (λ (log : Log). record { changes = log.changes ++ Put page log.came ∷ []; came = [] }) log) (option_map (λ (told : Told). with_file (record { page = page.0; bytes = Some told.came }) told) told) ≡ true
+        → are_told None (option_map (λ (log : Log). record { changes = log.changes ++ Put page log.came ∷ []; came = [] }) log)
+        (option_map (λ (told : Told). with_file (record { page = page.0; bytes = Some told.came }) told) told) ≡ true
     by None None so = refl
     by None (Some told) so = absurd (cc so)
     by (Some log) None so = absurd (cc so)
@@ -202,12 +225,14 @@ noted_put log page write (Some seen) so = by log seen.told (both (is_write write
 
 -- it fails
 pub noted_torn : (log : Option Log) (page : PageNo) (count : ℕ) (write : Option OpenWrite) (object : Option Seen) → is_as_noted log write object ≡ true
-    → is_as_noted (option_map (λ (log : Log). record log { changes = log.changes ++ Torn page ∷ [] }) log) None (option_map (λ seen. volume.with_count count (volume.torn page.0 seen)) object) ≡ true
+    → is_as_noted (option_map (λ (log : Log). record log { changes = log.changes ++ Torn page ∷ [] }) log) None
+    (option_map (λ seen. volume.with_count count (volume.torn page.0 seen)) object) ≡ true
 noted_torn log page count write None so = refl
 noted_torn log page count write (Some seen) so = by log seen.told (both (is_write write seen.write) (are_told write log seen.told) so).1
   where
     by : (log : Option Log) (told : Option Told) → are_told write log told ≡ true
-        → are_told None (option_map (λ (log : Log). record log { changes = log.changes ++ Torn page ∷ [] }) log) (option_map (with_file (record { page = page.0; bytes = None })) told) ≡ true
+        → are_told None (option_map (λ (log : Log). record log { changes = log.changes ++ Torn page ∷ [] }) log)
+        (option_map (with_file (record { page = page.0; bytes = None })) told) ≡ true
     by None None so = refl
     by None (Some told) so = absurd (cc so)
     by (Some log) None so = absurd (cc so)
@@ -217,16 +242,20 @@ noted_torn log page count write (Some seen) so = by log seen.told (both (is_writ
         (more_written log.changes (Torn page) told.files (record { page = page.0; bytes = None }) (eq-eqb page.0 page.0 refl) parts.0) refl
 
 -- a file is removed
-pub noted_removed : (log : Option Log) (page : ℕ) (object : Option Seen) → is_as_noted log None object ≡ true → is_as_noted log None (option_map (volume.removed page) object) ≡ true
+pub noted_removed : (log : Option Log) (page : ℕ) (object : Option Seen) → is_as_noted log None object ≡ true
+    → is_as_noted log None (option_map (volume.removed page) object) ≡ true
 noted_removed log page None so = refl
 noted_removed log page (Some seen) so = let parts = both (is_write None seen.write) (are_told None log seen.told) so in
-    and_of (is_write None seen.write) (are_told None log (option_map (λ (told : Told). record told { files = without page told.files }) seen.told)) parts.0 (by log seen.told parts.1)
+    and_of (is_write None seen.write) (are_told None log (option_map (λ (told : Told). record told { files = without page told.files }) seen.told)) parts.0
+    (by log seen.told parts.1)
   where
-    by : (log : Option Log) (told : Option Told) → are_told None log told ≡ true → are_told None log (option_map (λ (told : Told). record told { files = without page told.files }) told) ≡ true
+    by : (log : Option Log) (told : Option Told) → are_told None log told ≡ true
+        → are_told None log (option_map (λ (told : Told). record told { files = without page told.files }) told) ≡ true
     by None None so = refl
     by None (Some told) so = absurd (cc so)
     by (Some log) None so = absurd (cc so)
     by (Some log) (Some told) so =
         let parts = both (written log.changes told.files) true so in
         and_of (written log.changes (without page told.files)) true
-        (all_filter (λ (file : PageFile). list_any (writes file.page) log.changes) (λ (file : PageFile). list_any (writes file.page) log.changes) (λ file. not (page == file.page)) (λ file kept is. is) told.files parts.0) refl
+        (all_filter (λ (file : PageFile). list_any (writes file.page) log.changes) (λ (file : PageFile). list_any (writes file.page) log.changes)
+        (λ file. not (page == file.page)) (λ file kept is. is) told.files parts.0) refl

@@ -19,7 +19,8 @@ drop_slot [] n slot is = cc
 drop_slot (first ∷ slots) zero slot is = let same : first ≡ slot = cc in ap (λ (one : Slot). one ∷ slots) same
 drop_slot (first ∷ slots) (suc n) slot is = drop_slot slots n slot is
 
-pub all_retired_more : (slots : List Slot) (n : ℕ) (slot : Slot) → slice_get slots n ≡ Some slot → slot.is_retired ≡ true → AllRetired n slots → AllRetired (suc n) slots
+pub all_retired_more : (slots : List Slot) (n : ℕ) (slot : Slot) → slice_get slots n ≡ Some slot → slot.is_retired ≡ true → AllRetired n slots
+    → AllRetired (suc n) slots
 all_retired_more slots n slot is retired so =
     let here = drop_slot slots n slot is in
     let place : writer_of (drop n slots) ≡ suc (writer_of (drop (suc n) slots)) = ap writer_of here ∙ rw retired refl in
@@ -50,11 +51,19 @@ changed_other change (suc k) zero (slot ∷ slots) apart = refl
 changed_other change (suc k) (suc other) (slot ∷ slots) apart = changed_other change k other slots (λ is. apart (ap suc is))
 
 -- either
-pub changed_or : (change : Slot → Slot) (k other : ℕ) (slots : List Slot) → ((other ≡ k) × (slice_get (changed_at change k slots) other ≡ option_map change (slice_get slots other))) ⊎ ((other ≢ k) × (slice_get (changed_at change k slots) other ≡ slice_get slots other))
-changed_or change k other slots = (elim (other == k) as (λ r. (other == k) ≡ r → ((other ≡ k) × (slice_get (changed_at change k slots) other ≡ option_map change (slice_get slots other))) ⊎ ((other ≢ k) × (slice_get (changed_at change k slots) other ≡ slice_get slots other))) [
-  | true ↦ λ is. let same = eqb-true other k is in inl (same, subst (λ one. slice_get (changed_at change k slots) one ≡ option_map change (slice_get slots one)) (sym same) (changed_here change k slots))
-  | false ↦ λ is. inr (eqb-false other k is, changed_other change k other slots (eqb-false other k is))
-]) refl
+pub changed_or : (change : Slot → Slot) (k other : ℕ) (slots : List Slot)
+    → ((other ≡ k) × (slice_get (changed_at change k slots) other ≡ option_map change (slice_get slots other)))
+    ⊎ ((other ≢ k) × (slice_get (changed_at change k slots) other ≡ slice_get slots other))
+changed_or change k other slots =
+    (elim (other == k) as (λ r. (other == k) ≡ r → ((other ≡ k) × (slice_get (changed_at change k slots) other ≡ option_map change (slice_get slots other)))
+    ⊎ ((other ≢ k) × (slice_get (changed_at change k slots) other ≡ slice_get slots other))) [
+      | true ↦ λ is. let same = eqb-true other k is in inl (
+        same,
+        subst (λ one. slice_get (changed_at change k slots) one ≡ option_map change (slice_get slots one))
+            (sym same) (changed_here change k slots),
+      )
+      | false ↦ λ is. inr (eqb-false other k is, changed_other change k other slots (eqb-false other k is))
+    ]) refl
 
 pub length_changed : (change : Slot → Slot) (k : ℕ) (slots : List Slot) → length (changed_at change k slots) ≡ length slots
 length_changed change k [] = refl
@@ -77,7 +86,9 @@ pub writer_there : (slots : List Slot) → takes_writes slots ≡ true → IsSom
 writer_there [] writes = absurd (cc writes)
 writer_there (slot ∷ slots) writes = by slot.is_retired refl (λ more. writer_there slots more) writes
   where
-    by : (r : Bool) → slot.is_retired ≡ r → (takes_writes slots ≡ true → IsSomeAnd (slice_get slots (writer_of slots)) (λ slot. slot.is_retired ≡ false)) → takes_writes (slot ∷ slots) ≡ true
+    by : (r : Bool) → slot.is_retired ≡ r → (takes_writes slots ≡ true → IsSomeAnd (slice_get slots (writer_of slots)) (λ slot. slot.is_retired ≡ false))
+        → takes_writes (slot ∷ slots) ≡ true
         → IsSomeAnd (slice_get (slot ∷ slots) (writer_of (slot ∷ slots))) (λ slot. slot.is_retired ≡ false)
     by true is next writes = let more : takes_writes slots ≡ true = rw is at writes in rw is (next more)
-    by false is next writes = subst (λ r. IsSomeAnd (slice_get (slot ∷ slots) (if r then suc (writer_of slots) else zero)) (λ slot. slot.is_retired ≡ false)) (sym is) is
+    by false is next writes = subst (λ r. IsSomeAnd (slice_get (slot ∷ slots) (if r then suc (writer_of slots) else zero)) (λ slot. slot.is_retired ≡ false))
+        (sym is) is

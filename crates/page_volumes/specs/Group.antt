@@ -25,7 +25,8 @@ pub record Log : Type 0 where
   pub changes : List Change
   pub came : List ℕ
 
--- the volumes in their order, where the file of each page is (or that its torn file was removed already), the open write, what was done, where that is told, and how many bytes were read
+-- the volumes in their order, where the file of each page is (or that its torn file was removed already), the open write, what was done, where that is told,
+-- and how many bytes were read
 pub record Group : Type 0 where
   pub slots : List Slot
   pub files : List Filed
@@ -212,7 +213,8 @@ asked_at page group = unwrap_or (place_of page group.files) (writer_of group.slo
 
 -- how `get` ends
 abbrev pub Gets : ℕ → ℕ → Group → Result (Unit {0}) Failed → List ℕ → Group → Type 0
-Gets page off old (Ok done) out new = (new ≡ record old { meter = min (old.meter + length out) (2 ^ 64 - 1) }) × IfSome (object_at old.slots (asked_at page old)) (AreOf page off out)
+Gets page off old (Ok done) out new = (new ≡ record old { meter = min (old.meter + length out) (2 ^ 64 - 1) })
+    × IfSome (object_at old.slots (asked_at page old)) (AreOf page off out)
 Gets page off old (Err failed) out new = Counts (asked_at page old) old new
 
 -- the file of a page at a place stands no longer; its volume is seen otherwise

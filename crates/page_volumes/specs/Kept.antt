@@ -52,5 +52,6 @@ CanRemove files log = IfSome log (λ (log : Kept). length files.filed ≤ log.sp
 
 -- there is room for what an open write needs, and for the removal of each file
 abbrev pub HasRoom : Book → Option Writing → Option Kept → Type 0
-HasRoom files write log = IfSome write (λ (write : Writing). (0 < files.spare) × IfSome log (λ (log : Kept). (length files.filed + 2 ≤ log.spare) × (write.len ≤ write.came + log.incoming.room)))
+HasRoom files write log = IfSome write (λ (write : Writing). (0 < files.spare)
+    × IfSome log (λ (log : Kept). (length files.filed + 2 ≤ log.spare) × (write.len ≤ write.came + log.incoming.room)))
     × CanRemove files log

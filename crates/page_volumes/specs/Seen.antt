@@ -72,11 +72,19 @@ with_count count seen = record seen { faults = count }
 
 -- a write was begun
 abbrev pub begun : PageNo → ℕ → Seen → Seen
-begun page len seen = record seen { write = Some (record { page = page; len = len; came = 0 }); told = option_map (λ (told : Told). record told { came = [] }) seen.told }
+begun page len seen = record seen {
+  write = Some (record { page = page; len = len; came = 0 });
+  told = option_map (λ (told : Told). record told { came = [] })
+      seen.told;
+}
 
 -- bytes came to the open write
 abbrev pub longer : List ℕ → Seen → Seen
-longer bytes seen = record seen { write = with_more (length bytes) seen.write; told = option_map (λ (told : Told). record told { came = told.came ++ bytes }) seen.told }
+longer bytes seen = record seen {
+  write = with_more (length bytes) seen.write;
+  told = option_map (λ (told : Told). record told { came = told.came ++ bytes })
+      seen.told;
+}
 
 -- the open write, of this page, ended well
 abbrev pub put : ℕ → Seen → Seen

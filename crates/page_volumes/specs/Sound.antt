@@ -1,4 +1,5 @@
--- Whether volumes stand as a group noted. A boxed object can't be spoken of by what a struct keeps, so a test says it, and every call of a disk asks for it. Own.
+-- Whether volumes stand as a group noted. A boxed object can't be spoken of by what a struct keeps, so a test says it, and every call of a disk asks for it.
+-- Own.
 use Rattle.std.specs.Prelude.{ℕ, ◌==◌, ◌&&◌, ◌||◌, Bool, true, false, not, List, [], ◌∷◌, bytes_eq, if◌then◌else◌, is_some, is_none, min, ◌^◌, ◌-◌, slice_get, Option, Some, None}
 use Rattle.std.specs.List.{list_all, list_any}
 use Rattle.std.specs.Option.{option_map, option_map_or}
@@ -20,7 +21,8 @@ abbrev pub are_told : Option OpenWrite → Option Log → Option Told → Bool
 are_told write None None = true
 are_told write None (Some told) = false
 are_told write (Some log) None = false
-are_told write (Some log) (Some told) = list_all (λ (file : PageFile). list_any (writes file.page) log.changes) told.files && (is_none write || bytes_eq log.came told.came)
+are_told write (Some log) (Some told) = list_all (λ (file : PageFile). list_any (writes file.page) log.changes) told.files
+    && (is_none write || bytes_eq log.came told.came)
 
 -- whether a volume, where one is held, stands as noted
 abbrev pub is_as_noted : Option Log → Option OpenWrite → Option Seen → Bool
@@ -50,7 +52,8 @@ has_put page changes seen = option_map_or (λ file. is_put (last_put page change
 
 -- whether a page, which was written, is where it is noted to be
 abbrev pub is_there : List Change → List Slot → Filed → Bool
-is_there changes slots file = option_map_or (λ home. list_any (writes file.page.0) changes && option_map_or (has_put file.page.0 changes) (object_at slots home) false) file.home true
+is_there changes slots file = option_map_or (λ home. list_any (writes file.page.0) changes && option_map_or (has_put file.page.0 changes) (object_at slots home)
+    false) file.home true
 
 -- whether each page is
 abbrev pub are_there : Group → Bool

@@ -186,7 +186,8 @@ module _ (s : Session) (h : History) (event : Event) (renderer name : ℕ) (kind
       needs = λ source begun has. (source_root s h renderer name source parts holders e has).0;
       cells =
           λ piece member owned. cells_live s h renderer name parts piece holders fresh e member
-          (subst (λ (o : Option Status). list_any (owns piece) (planned_cells (builds (page_limit s) h) name parts (plan_told (build_answer_by s h name parts o)))
+          (subst (λ (o : Option Status). list_any (owns piece) (planned_cells (builds (page_limit s) h) name parts
+          (plan_told (build_answer_by s h name parts o)))
           ≡ true) e owned);
     }
 
@@ -274,7 +275,8 @@ module _ (s : Session) (h : History) (event : Event) (renderer name : ℕ) (kind
     pub plan_is : (status : Option Status) → line_status s h renderer name parts ≡ status → whole_build.plan ≡ plan_told (build_answer_by s h name parts status)
     plan_is status e = ap (λ (o : Option Status). plan_told (build_answer_by s h name parts o)) e
 
-    fits_by : (status : Option Status) (e : line_status s h renderer name parts ≡ status) → was_granted h name ≡ false → memory (page_limit s) h ≤ s.limits.memory
+    fits_by : (status : Option Status) (e : line_status s h renderer name parts ≡ status) → was_granted h name ≡ false → memory (page_limit s) h ≤
+        s.limits.memory
         → memory (page_limit s) (added status) ≤ s.limits.memory
     fits_by (Some status) e not_yet fits =
         let more = memory_adds (page_limit s) h (added (Some status)) whole_build (adds_by (Some status) e) in

@@ -19,6 +19,7 @@ loop-held-preserved c =
     let step = turned_step c.args.page held c.loop-held.shares c.turn_paged.new.self there c.turn_paged.ensures in
     record {
       turned = λ slot. step slot ∙ ap (turned_by c.args.page held slot) (c.loop-held.invariant.turned slot)
-          ∙ sym (ap (λ (list : List Held). turned c.args.page list slot (share_at c.args.shares.now slot)) (take_more pieces i d inside) ∙ turned_push c.args.page (take i pieces) held slot (share_at c.args.shares.now slot));
+          ∙ sym (ap (λ (list : List Held). turned c.args.page list slot (share_at c.args.shares.now slot)) (take_more pieces i d inside) ∙ turned_push
+          c.args.page (take i pieces) held slot (share_at c.args.shares.now slot));
       held = all_hold c.args.page held c.loop-held.shares c.turn_paged.new.self step pieces c.loop-held.invariant.held;
     }

@@ -18,8 +18,12 @@ append_all-requires g c =
     let held = slice_index_or pieces i d in
     let inside : i < length pieces = omega (arith, c.loop-held-test.true) in
     let is : item_at c.args.shares.now held.slot ≡ Some (Memory c.in-Some-Memory.field-0-0 c.in-Some-Memory.bytes) = search rules in
-    let size = length_at c.args.shares.now held c.in-Some-Memory.field-0-0 c.in-Some-Memory.bytes is (all_at (IsMemoryIn c.args.shares.now) pieces i d inside c.requires.items) in
+    let size = length_at c.args.shares.now held c.in-Some-Memory.field-0-0 c.in-Some-Memory.bytes is
+    (all_at (IsMemoryIn c.args.shares.now) pieces i d inside c.requires.items) in
     let same : length c.as_slice.result.now ≡ held.len = rw c.as_slice.ensures size in
     let within : bytes_of (take i pieces) + length c.as_slice.result.now ≤ bytes_of pieces =
     omega (arith, bytes_more pieces i d inside, bytes_within pieces (i + 1), same) in
-    record { fits = room_for (bytes_of (take i pieces)) (length c.as_slice.result.now) (bytes_of pieces) (g.D.PageDisk.writing c.args.disk.now) (g.D.PageDisk.writing c.loop-held.disk) c.requires.fits c.loop-held.invariant.added.write within }
+    record {
+      fits = room_for (bytes_of (take i pieces)) (length c.as_slice.result.now) (bytes_of pieces) (g.D.PageDisk.writing c.args.disk.now)
+          (g.D.PageDisk.writing c.loop-held.disk) c.requires.fits c.loop-held.invariant.added.write within;
+    }

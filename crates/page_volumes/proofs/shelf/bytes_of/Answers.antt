@@ -19,7 +19,8 @@ returns-then-page-file c =
     let page = c.args.page.0 in
     let file = c.file-item.result in
     let there : slice_get files i ≡ Some file = slice_get-get_or files i file c.loop-file-test.true ∙ ap Some (sym c.file-item.is) in
-    c.slice_of.ensures ∙ ap (λ found. option_and_then (λ whole. whole) found) (sym (Shelved.file_found page files i file there c.loop-file.invariant (eq-eqb page file.page.0 c.if-page-file.true)))
+    c.slice_of.ensures ∙ ap (λ found. option_and_then (λ whole. whole) found)
+    (sym (Shelved.file_found page files i file there c.loop-file.invariant (eq-eqb page file.page.0 c.if-page-file.true)))
 
 pub loop-file-preserved : goal.loop-file-preserved
 loop-file-preserved c =
@@ -28,4 +29,5 @@ loop-file-preserved c =
     let page = c.args.page.0 in
     let file = c.file-item.result in
     let there : slice_get files i ≡ Some file = slice_get-get_or files i file c.loop-file-test.true ∙ ap Some (sym c.file-item.is) in
-    subst (λ n. file_of page (map page_file (take n files)) ≡ None) (more i) (Shelved.file_not_found page files i file there c.loop-file.invariant (ne_eqb page file.page.0 c.if-page-file.false))
+    subst (λ n. file_of page (map page_file (take n files)) ≡ None) (more i)
+    (Shelved.file_not_found page files i file there c.loop-file.invariant (ne_eqb page file.page.0 c.if-page-file.false))

@@ -7,4 +7,5 @@ use Rattle.page_volumes.proofs.Shelved.{map_without}
 use Rattle.page_volumes.proofs.shelf.remove_from.Goals as goal
 
 pub returns-clause-items : goal.returns-clause-items
-returns-clause-items c = ap (map page_file) (filter_same _ (λ (file : Stored). not (c.args.page.0 == file.page.0)) _ (λ x b f' h. search rules) _ _ c.retain.ensures.filtered) ∙ map_without c.args.page.0 c.args.files.now.items
+returns-clause-items c = ap (map page_file) (filter_same _ (λ (file : Stored). not (c.args.page.0 == file.page.0)) _ (λ x b f' h. search rules) _ _
+    c.retain.ensures.filtered) ∙ map_without c.args.page.0 c.args.files.now.items

@@ -6,7 +6,8 @@ use Rattle.page_files.proofs.page_files.PageFiles.close.Given as goal
 abbrev pub invariant-loop-place : goal.invariant-loop-place
 invariant-loop-place g l = record {
   files : l.self ≡ record l.fn.self { pages = all_asked (take l.place l.fn.self.pages) ++ drop l.place l.fn.self.pages };
-  closes : Closes (take l.place l.fn.self.pages) (g.D.PageDisk.changes l.fn.disk) (g.D.PageDisk.changes l.disk) (g.D.PageDisk.faults l.fn.disk) (g.D.PageDisk.faults l.disk) l.closed;
+  closes : Closes (take l.place l.fn.self.pages) (g.D.PageDisk.changes l.fn.disk) (g.D.PageDisk.changes l.disk) (g.D.PageDisk.faults l.fn.disk)
+      (g.D.PageDisk.faults l.disk) l.closed;
   closed : g.D.PageDisk.writing l.disk ≡ None;
   agrees : IfSome (g.D.PageDisk.changes l.disk) (Agrees l.self.pages);
   later : g.D.PageDisk.faults l.fn.disk ≤ g.D.PageDisk.faults l.disk;

@@ -14,7 +14,8 @@ loop-held-preserved c =
     let inside : i < length pieces = omega (arith, c.loop-held-test.true) in
     let held = get_or pieces i d in
     record {
-      files = c.release_piece.ensures.files ∙ ap (λ (files : Files). record files { pages = released_at c.args.page.0 held.piece files.pages }) c.loop-held.invariant.files
+      files = c.release_piece.ensures.files ∙ ap (λ (files : Files). record files { pages = released_at c.args.page.0 held.piece files.pages })
+          c.loop-held.invariant.files
           ∙ sym (released_more c.args.page.0 pieces i d c.args.self.now inside);
       agrees = λ changes so. c.release_piece.ensures.agrees changes (c.loop-held.invariant.agrees changes so);
     }

@@ -8,5 +8,6 @@ use Rattle.page_files.proofs.page_table.PageTable.first_thin.Goals as goal
 pub returns : goal.returns
 returns c =
     let pages = c.self.inside.pages.items in
-    let keys = position_same thin_key (λ (key : ℕ). nat_le key (min c.args.room (2 ^ 64 - 2))) (can_move c.args.room) pages (thin_keys c.args.room pages c.self.invariant.2) in
+    let keys = position_same thin_key (λ (key : ℕ). nat_le key (min c.args.room (2 ^ 64 - 2))) (can_move c.args.room) pages
+    (thin_keys c.args.room pages c.self.invariant.2) in
     c.first.ensures ∙ rw (c.min.ensures, c.self.invariant.0, ← c.self.view_is) keys

@@ -11,5 +11,6 @@ invariant_of-self c =
     let one = c.release.new.self in (
       rw (c.set.ensures, c.self.invariant.0, c.thin_key.ensures) (sym (map-set thin_key pages c.args.place one)),
       rw (c.set-in-Some.ensures, c.self.invariant.1, c.due_key.ensures) (sym (map-set due_key pages c.args.place one)),
-      all_set HasSize pages c.args.place one c.self.invariant.2 (rw c.release.ensures (size_after pages c.args.place c.in-Some.page.now c.args.piece c.self.invariant.2 c.in-Some.ensures.item.3.0 c.in-Some.ensures.item.1)),
+      all_set HasSize pages c.args.place one c.self.invariant.2 (rw c.release.ensures
+          (size_after pages c.args.place c.in-Some.page.now c.args.piece c.self.invariant.2 c.in-Some.ensures.item.3.0 c.in-Some.ensures.item.1)),
     )

@@ -32,7 +32,8 @@ loop-held-preserved c =
 pub invariant_of-result : goal.invariant_of-result
 invariant_of-result c =
     let all : take c.loop-held.held-index c.args.pieces.now ≡ c.args.pieces.now = take_all c.loop-held.held-index c.args.pieces.now c.loop-held-test.false in
-    rw (c.loop-held.invariant.entries, c.loop-held.invariant.bytes, all, pieces_entered c.args.pieces.now) (refl, long_entered c.args.pieces.now c.requires.long)
+    rw (c.loop-held.invariant.entries, c.loop-held.invariant.bytes, all, pieces_entered c.args.pieces.now)
+    (refl, long_entered c.args.pieces.now c.requires.long)
 
 pub returns : goal.returns
 returns c =

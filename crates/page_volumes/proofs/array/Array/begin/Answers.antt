@@ -33,7 +33,8 @@ invariant_of-self g c =
     let is = Disk.closed_is old c.requires.closed in
     let good = Opened.good_of seen members c.args.self.now.keeps is.sound in
     let new = of_members seen c.begin.new.self in
-    let good_new = Goods.begins_good c.args.page c.args.len old c.begin.result new good is.closed (Disk.new_log c.args.page old c.requires.new_page) c.begin.ensures.act in
+    let good_new = Goods.begins_good c.args.page c.args.len old c.begin.result new good is.closed (Disk.new_log c.args.page old c.requires.new_page)
+    c.begin.ensures.act in
     let sound = Goods.sound_of new good_new in
     record { keeps = Opened.plain_of seen c.begin.new.self good_new; room = c.begin.ensures.room }
 
@@ -45,7 +46,8 @@ returns g c =
     let is = Disk.closed_is old c.requires.closed in
     let good = Opened.good_of seen members c.args.self.now.keeps is.sound in
     let new = of_members seen c.begin.new.self in
-    let good_new = Goods.begins_good c.args.page c.args.len old c.begin.result new good is.closed (Disk.new_log c.args.page old c.requires.new_page) c.begin.ensures.act in
+    let good_new = Goods.begins_good c.args.page c.args.len old c.begin.result new good is.closed (Disk.new_log c.args.page old c.requires.new_page)
+    c.begin.ensures.act in
     let sound = Goods.sound_of new good_new in
     record {
       act = c.begin.ensures.act;

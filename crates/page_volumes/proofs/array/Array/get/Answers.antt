@@ -36,7 +36,9 @@ invariant_of-self g c =
     let sound = Goods.sound_of new good_new in
     record {
       keeps = Opened.plain_of seen c.get.new.self good_new;
-      room = subst (λ (files : Book). HasRoom files c.get.new.self.write c.get.new.self.log) (sym c.get.ensures.files) (subst (λ (write : Option Writing). HasRoom members.files write c.get.new.self.log) (sym c.get.ensures.write) (subst (λ (log : Option Kept). HasRoom members.files members.write log) (sym c.get.ensures.log) c.args.self.now.room));
+      room = subst (λ (files : Book). HasRoom files c.get.new.self.write c.get.new.self.log) (sym c.get.ensures.files)
+          (subst (λ (write : Option Writing). HasRoom members.files write c.get.new.self.log) (sym c.get.ensures.write)
+          (subst (λ (log : Option Kept). HasRoom members.files members.write log) (sym c.get.ensures.log) c.args.self.now.room));
     }
 
 pub returns : goal.returns
@@ -53,7 +55,8 @@ returns g c =
       act = c.get.ensures.act;
       closed = Clauses.get_closed c.args.page.0 c.args.off old new c.get.result c.get.new.out sound is.closed c.get.ensures.act;
       same = Clauses.get_same c.args.page.0 c.args.off old new c.get.result c.get.new.out c.get.ensures.act;
-      bytes = Clauses.get_bytes c.args.page.0 c.args.off old new c.get.result c.get.new.out c.args.out.now c.get.ensures.len good is.closed c.requires.there c.get.ensures.act;
+      bytes = Clauses.get_bytes c.args.page.0 c.args.off old new c.get.result c.get.new.out c.args.out.now c.get.ensures.len good is.closed c.requires.there
+          c.get.ensures.act;
       failed = Clauses.get_failed c.args.page.0 c.args.off old new c.get.result c.get.new.out good c.get.ensures.act;
       good = Clauses.get_good c.args.page.0 c.args.off old new c.get.result c.get.new.out c.get.ensures.act;
       later = Clauses.get_later c.args.page.0 c.args.off old new c.get.result c.get.new.out good c.get.ensures.act;

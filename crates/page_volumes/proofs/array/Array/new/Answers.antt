@@ -17,11 +17,13 @@ invariant_of-result g c =
     let objects = map seen c.args.volumes.items in
     let log = ap (λ (log : Option Kept). option_map log_of log) c.log_for-log.ensures ∙ fresh_told c.args.is_recording in
     let files = ap (λ (book : Book). book.filed) c.new-2.ensures in
-    let is : of_members seen (record { places = c.in_ok-places.places; files = c.new-2.result; write = None; log = c.log_for-log.result; meter = 0 }) ≡ new_group objects (if c.args.is_recording then Some [] else None)
+    let is : of_members seen (record { places = c.in_ok-places.places; files = c.new-2.result; write = None; log = c.log_for-log.result; meter = 0 })
+    ≡ new_group objects (if c.args.is_recording then Some [] else None)
     = λ i. record { slots = c.in_ok-places.ensures i; files = files i; write = None; log = log i; meter = 0 } in
     let long : length objects ≡ length c.args.volumes.items = map_length seen c.args.volumes.items in
     let some : 0 < length objects = omega (arith, long, c.args.volumes.ok.0, c.requires.some) in
-    let good : Good (of_members seen (record { places = c.in_ok-places.places; files = c.new-2.result; write = None; log = c.log_for-log.result; meter = 0 })) = subst Good (sym is) (new_good objects c.args.is_recording some c.requires.fresh) in
+    let good : Good (of_members seen (record { places = c.in_ok-places.places; files = c.new-2.result; write = None; log = c.log_for-log.result; meter = 0 })) =
+    subst Good (sym is) (new_good objects c.args.is_recording some c.requires.fresh) in
     record {
       keeps = plain_of seen (record { places = c.in_ok-places.places; files = c.new-2.result; write = None; log = c.log_for-log.result; meter = 0 }) good;
       room = (tt, room_new c.new-2.result c.log_for-log.result files);
@@ -33,9 +35,13 @@ returns-clause-closed g c =
     let objects = map seen c.args.volumes.items in
     let log = ap (λ (log : Option Kept). option_map log_of log) c.log_for-log.ensures ∙ fresh_told c.args.is_recording in
     let files = ap (λ (book : Book). book.filed) c.new-2.ensures in
-    let is : of_members seen (record { places = c.in_ok-places.places; files = c.new-2.result; write = None; log = c.log_for-log.result; meter = 0 }) ≡ new_group objects (if c.args.is_recording then Some [] else None)
+    let is : of_members seen (record { places = c.in_ok-places.places; files = c.new-2.result; write = None; log = c.log_for-log.result; meter = 0 })
+    ≡ new_group objects (if c.args.is_recording then Some [] else None)
     = λ i. record { slots = c.in_ok-places.ensures i; files = files i; write = None; log = log i; meter = 0 } in
     let long : length objects ≡ length c.args.volumes.items = map_length seen c.args.volumes.items in
     let some : 0 < length objects = omega (arith, long, c.args.volumes.ok.0, c.requires.some) in
-    let good : Good (of_members seen (record { places = c.in_ok-places.places; files = c.new-2.result; write = None; log = c.log_for-log.result; meter = 0 })) = subst Good (sym is) (new_good objects c.args.is_recording some c.requires.fresh) in
-    writing_sound (of_members seen (record { places = c.in_ok-places.places; files = c.new-2.result; write = None; log = c.log_for-log.result; meter = 0 })) (sound_of (of_members seen (record { places = c.in_ok-places.places; files = c.new-2.result; write = None; log = c.log_for-log.result; meter = 0 })) good)
+    let good : Good (of_members seen (record { places = c.in_ok-places.places; files = c.new-2.result; write = None; log = c.log_for-log.result; meter = 0 })) =
+    subst Good (sym is) (new_good objects c.args.is_recording some c.requires.fresh) in
+    writing_sound (of_members seen (record { places = c.in_ok-places.places; files = c.new-2.result; write = None; log = c.log_for-log.result; meter = 0 }))
+    (sound_of (of_members seen (record { places = c.in_ok-places.places; files = c.new-2.result; write = None; log = c.log_for-log.result; meter = 0 }))
+    good)

@@ -37,7 +37,8 @@ invariant_of-self g c =
     let sound = Goods.sound_of new good_new in
     record {
       keeps = Opened.plain_of seen c.remove.new.self good_new;
-      room = subst (λ (write : Option Writing). HasRoom c.remove.new.self.files write c.remove.new.self.log) (sym (c.remove.ensures.write ∙ Opened.closed_writing members.write is.closed)) (tt, c.remove.ensures.room);
+      room = subst (λ (write : Option Writing). HasRoom c.remove.new.self.files write c.remove.new.self.log)
+          (sym (c.remove.ensures.write ∙ Opened.closed_writing members.write is.closed)) (tt, c.remove.ensures.room);
     }
 
 pub returns : goal.returns

@@ -20,7 +20,8 @@ returns-then-page-file c =
     let page = c.args.page.0 in
     let items : files ≡ c.args.self.now.filed = c.as_slice-file-items.ensures.value ∙ ap (λ (book : Book). book.filed) c.self.view_is in
     let none = subst (λ (some : List Filed). home_of page (take i some) ≡ None) (sym items) c.loop-file.invariant in
-    sym (Filing.home_found page files i (get_or files i blank) (slice_get-get_or files i blank c.loop-file-test.true) none (eq-eqb page (get_or files i blank).page.0 c.if-page-file.true)) ∙ ap (home_of page) items
+    sym (Filing.home_found page files i (get_or files i blank) (slice_get-get_or files i blank c.loop-file-test.true) none
+    (eq-eqb page (get_or files i blank).page.0 c.if-page-file.true)) ∙ ap (home_of page) items
 
 pub loop-file-preserved : goal.loop-file-preserved
 loop-file-preserved c =
@@ -30,4 +31,5 @@ loop-file-preserved c =
     let items : files ≡ c.args.self.now.filed = c.as_slice-file-items.ensures.value ∙ ap (λ (book : Book). book.filed) c.self.view_is in
     let none = subst (λ (some : List Filed). home_of page (take i some) ≡ None) (sym items) c.loop-file.invariant in
     subst (λ (some : List Filed). home_of page (take (i + 1) some) ≡ None) items
-    (subst (λ n. home_of page (take n files) ≡ None) (more i) (Filing.home_not_found page files i (get_or files i blank) (slice_get-get_or files i blank c.loop-file-test.true) none (ne_eqb page (get_or files i blank).page.0 c.if-page-file.false)))
+    (subst (λ n. home_of page (take n files) ≡ None) (more i) (Filing.home_not_found page files i (get_or files i blank)
+    (slice_get-get_or files i blank c.loop-file-test.true) none (ne_eqb page (get_or files i blank).page.0 c.if-page-file.false)))

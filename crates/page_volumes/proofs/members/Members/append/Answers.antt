@@ -26,9 +26,12 @@ tear-requires-clause-writes g c =
     let old = of_members seen members in
     let w = writer_of old.slots in
     let opened : option_map open_of members.write ≡ Some (open_of write) = ap (option_map open_of) c.unwrap-write.ensures in
-    let acts = acts_more (λ one. one.write ≡ option_map open_of members.write) (λ before after. Fails (volume.torn (open_page before.write) before) before after) (λ before after. Fails (volume.torn page.0 before) before after) w old.slots (of_places seen c.append.new.self)
+    let acts = acts_more (λ one. one.write ≡ option_map open_of members.write)
+    (λ before after. Fails (volume.torn (open_page before.write) before) before after) (λ before after. Fails (volume.torn page.0 before) before after) w
+    old.slots (of_places seen c.append.new.self)
     (λ before after is so. subst (λ one. Fails (volume.torn (open_page one) before) before after) (is ∙ opened) so) c.requires.ready
-    (subst (λ k. Acts k old.slots (of_places seen c.append.new.self) (λ before after. Fails (volume.torn (open_page before.write) before) before after)) c.writer-k.ensures.value c.in-Err.ensures.act) in
+    (subst (λ k. Acts k old.slots (of_places seen c.append.new.self) (λ before after. Fails (volume.torn (open_page before.write) before) before after))
+    c.writer-k.ensures.value c.in-Err.ensures.act) in
     let fails = acts_failed (volume.torn page.0) w old.slots (of_places seen c.append.new.self) acts in
     ap takes_writes fails.is ∙ writes_seen (λ seen. with_count fails.count (volume.torn page.0 seen)) w old.slots ∙ c.requires.writes
 
@@ -41,11 +44,15 @@ tear-requires-clause-there g c =
     let old = of_members seen members in
     let w = writer_of old.slots in
     let opened : option_map open_of members.write ≡ Some (open_of write) = ap (option_map open_of) c.unwrap-write.ensures in
-    let acts = acts_more (λ one. one.write ≡ option_map open_of members.write) (λ before after. Fails (volume.torn (open_page before.write) before) before after) (λ before after. Fails (volume.torn page.0 before) before after) w old.slots (of_places seen c.append.new.self)
+    let acts = acts_more (λ one. one.write ≡ option_map open_of members.write)
+    (λ before after. Fails (volume.torn (open_page before.write) before) before after) (λ before after. Fails (volume.torn page.0 before) before after) w
+    old.slots (of_places seen c.append.new.self)
     (λ before after is so. subst (λ one. Fails (volume.torn (open_page one) before) before after) (is ∙ opened) so) c.requires.ready
-    (subst (λ k. Acts k old.slots (of_places seen c.append.new.self) (λ before after. Fails (volume.torn (open_page before.write) before) before after)) c.writer-k.ensures.value c.in-Err.ensures.act) in
+    (subst (λ k. Acts k old.slots (of_places seen c.append.new.self) (λ before after. Fails (volume.torn (open_page before.write) before) before after))
+    c.writer-k.ensures.value c.in-Err.ensures.act) in
     let fails = acts_failed (volume.torn page.0) w old.slots (of_places seen c.append.new.self) acts in
-    subst (λ slots. CanRemoveAt page.0 slots (writer_of slots)) (sym fails.is) (failed_removable page fails.count (λ one. one.write ≡ option_map open_of members.write) old.slots c.requires.ready)
+    subst (λ slots. CanRemoveAt page.0 slots (writer_of slots)) (sym fails.is)
+    (failed_removable page fails.count (λ one. one.write ≡ option_map open_of members.write) old.slots c.requires.ready)
 
 pub returns-in-Err-clause-act : goal.returns-in-Err-clause-act
 returns-in-Err-clause-act g c =
@@ -56,12 +63,22 @@ returns-in-Err-clause-act g c =
     let old = of_members seen members in
     let w = writer_of old.slots in
     let opened : option_map open_of members.write ≡ Some (open_of write) = ap (option_map open_of) c.unwrap-write.ensures in
-    let acts = acts_more (λ one. one.write ≡ option_map open_of members.write) (λ before after. Fails (volume.torn (open_page before.write) before) before after) (λ before after. Fails (volume.torn page.0 before) before after) w old.slots (of_places seen c.append.new.self)
+    let acts = acts_more (λ one. one.write ≡ option_map open_of members.write)
+    (λ before after. Fails (volume.torn (open_page before.write) before) before after) (λ before after. Fails (volume.torn page.0 before) before after) w
+    old.slots (of_places seen c.append.new.self)
     (λ before after is so. subst (λ one. Fails (volume.torn (open_page one) before) before after) (is ∙ opened) so) c.requires.ready
-    (subst (λ k. Acts k old.slots (of_places seen c.append.new.self) (λ before after. Fails (volume.torn (open_page before.write) before) before after)) c.writer-k.ensures.value c.in-Err.ensures.act) in
+    (subst (λ k. Acts k old.slots (of_places seen c.append.new.self) (λ before after. Fails (volume.torn (open_page before.write) before) before after))
+    c.writer-k.ensures.value c.in-Err.ensures.act) in
     let fails = acts_failed (volume.torn page.0) w old.slots (of_places seen c.append.new.self) acts in
-    let mid : of_members seen (record members { places = c.append.new.self; write = None }) ≡ Group.failed page fails.count old = λ i. record old { slots = fails.is i; write = None } in
-    let tears : Group.Tears page (λ group. group) old (of_members seen c.tear.new.self) = record { count = fails.count; rose = fails.rose; sweeps = subst (λ (group : Group.Group). Group.Sweeps page group (of_members seen c.tear.new.self)) mid c.tear.ensures.act } in
+    let mid : of_members seen (record members { places = c.append.new.self; write = None }) ≡ Group.failed page fails.count old =
+    λ i. record old { slots = fails.is i; write = None } in
+    let tears : Group.Tears page (λ group. group) old (of_members seen c.tear.new.self) =
+    record {
+      count = fails.count;
+      rose = fails.rose;
+      sweeps = subst (λ (group : Group.Group). Group.Sweeps page group (of_members seen c.tear.new.self))
+          mid c.tear.ensures.act;
+    } in
     subst (λ write. IsSomeAnd write (λ (write : OpenWrite). Group.Tears write.page (λ group. group) old (of_members seen c.tear.new.self))) (sym opened) tears
 
 pub returns-in-Ok-clause-act : goal.returns-in-Ok-clause-act
@@ -74,7 +91,8 @@ returns-in-Ok-clause-act g c =
     let w = writer_of old.slots in
     let opened : option_map open_of members.write ≡ Some (open_of write) = ap (option_map open_of) c.unwrap-write.ensures in
     let bytes = c.args.bytes.now in
-    let slots = acts_good (volume.longer bytes) c.writer-k.result old.slots (of_places seen c.append.new.self) c.in-Ok.ensures.act ∙ ap (λ k. changed_at (seen_by (volume.longer bytes)) k old.slots) c.writer-k.ensures.value in
+    let slots = acts_good (volume.longer bytes) c.writer-k.result old.slots (of_places seen c.append.new.self) c.in-Ok.ensures.act ∙ ap
+    (λ k. changed_at (seen_by (volume.longer bytes)) k old.slots) c.writer-k.ensures.value in
     let log = ap (λ (log : Option Kept). option_map log_of log) c.take_in.ensures ∙ taken_told bytes members.log in
     let more = ap (with_more (length bytes)) (sym opened) in
     λ i. record old { slots = slots i; write = more i; log = log i }

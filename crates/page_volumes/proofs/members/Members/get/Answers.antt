@@ -16,7 +16,8 @@ returns-in-Err-clause-act g c =
     let old = of_members seen c.args.self.now in
     let k = Group.asked_at c.args.page.0 old in
     let new = of_places seen c.get.new.self in
-    let fails = acts_failed (λ seen. seen) k old.slots new (subst (λ k. Acts k old.slots new (λ before after. volume.Fails before before after)) c.asked-k.ensures c.in-Err.ensures.act) in
+    let fails = acts_failed (λ seen. seen) k old.slots new (subst (λ k. Acts k old.slots new (λ before after. volume.Fails before before after))
+    c.asked-k.ensures c.in-Err.ensures.act) in
     let after : Group.Group = record old { slots = new } in
     let is : after ≡ record old { slots = changed_at (seen_by (with_count fails.count)) k old.slots } = λ i. record old { slots = fails.is i } in
     let counts : Group.Counts k old after = record { count = fails.count; rose = fails.rose; is = is } in
@@ -29,7 +30,9 @@ returns-in-Ok-clause-act g c =
     let old = of_members seen members in
     let k = Group.asked_at c.args.page.0 old in
     let new = of_places seen c.get.new.self in
-    let read = acts_read c.args.page.0 c.args.off c.get.new.out k old.slots new (subst (λ k. Acts k old.slots new (λ before after. (after ≡ before) × volume.AreOf c.args.page.0 c.args.off c.get.new.out before)) c.asked-k.ensures c.in-Ok.ensures.act) in
+    let read = acts_read c.args.page.0 c.args.off c.get.new.out k old.slots new
+    (subst (λ k. Acts k old.slots new (λ before after. (after ≡ before) × volume.AreOf c.args.page.0 c.args.off c.get.new.out before)) c.asked-k.ensures
+    c.in-Ok.ensures.act) in
     let same = read.0 in
     let metered : c.saturating_add-self.result ≡ min (members.meter + length c.get.new.out) (2 ^ 64 - 1) = search rules in
     let after : Group.Group = record old { slots = new; meter = c.saturating_add-self.result } in

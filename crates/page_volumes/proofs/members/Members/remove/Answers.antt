@@ -11,4 +11,5 @@ returns-in-None-clause-act g c =
     let old = of_members seen c.args.self.now in
     let new = of_places seen c.remove.new.self in
     removes_none c.args.page old new c.remove.result (sym c.in-None.ensures)
-    (subst (λ k. Acts k old.slots new (λ before after. volume.Removes c.args.page.0 before c.remove.result after)) c.writer-k.ensures.value c.remove.ensures.act)
+    (subst (λ k. Acts k old.slots new (λ before after. volume.Removes c.args.page.0 before c.remove.result after)) c.writer-k.ensures.value
+    c.remove.ensures.act)

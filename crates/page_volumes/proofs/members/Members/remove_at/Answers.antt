@@ -38,8 +38,10 @@ returns-in-Ok-clause-act g c =
     let page = c.args.page in
     let old = of_members seen members in
     let files = c.let_off.ensures.files in
-    let slots = c.let_off.ensures.slots ∙ ap (λ slots. settled_at (unfiled page.0 old.files) c.args.k slots) (acts_good (volume.removed page.0) c.args.k old.slots (of_places seen c.remove.new.self) c.in-Ok.ensures.act) in
-    let log = ap (λ (log : Option Kept). option_map log_of log) (c.push.ensures ∙ ap (λ (log : Option Kept). option_map (noted (changes.Remove page)) log) c.let_off.ensures.log) ∙ noted_told (changes.Remove page) members.log in
+    let slots = c.let_off.ensures.slots ∙ ap (λ slots. settled_at (unfiled page.0 old.files) c.args.k slots)
+    (acts_good (volume.removed page.0) c.args.k old.slots (of_places seen c.remove.new.self) c.in-Ok.ensures.act) in
+    let log = ap (λ (log : Option Kept). option_map log_of log) (c.push.ensures ∙ ap (λ (log : Option Kept). option_map (noted (changes.Remove page)) log)
+    c.let_off.ensures.log) ∙ noted_told (changes.Remove page) members.log in
     let write = ap (λ (write : Option Writing). option_map open_of write) c.let_off.ensures.write in
     λ i. record { slots = slots i; files = files i; write = write i; log = log i; meter = c.let_off.ensures.meter i }
 
@@ -48,7 +50,8 @@ returns-in-Ok-clause-room g c =
     let members = c.args.self.now in
     let page = c.args.page in
     let some : IsSome (home_of page.0 members.files.filed) = subst (λ (home : Option (Option ℕ)). IsSome home) (sym c.requires.filed) refl in
-    subst (λ (log : Option Kept). CanRemove c.let_off.new.self.files log) (sym (c.push.ensures ∙ ap (λ (log : Option Kept). option_map (noted (changes.Remove page)) log) c.let_off.ensures.log))
+    subst (λ (log : Option Kept). CanRemove c.let_off.new.self.files log)
+    (sym (c.push.ensures ∙ ap (λ (log : Option Kept). option_map (noted (changes.Remove page)) log) c.let_off.ensures.log))
     (room_less page.0 (changes.Remove page) members.files c.let_off.new.self.files members.log some c.let_off.ensures.files c.requires.room)
 
 pub returns-in-Err-clause-act : goal.returns-in-Err-clause-act
@@ -60,7 +63,8 @@ returns-in-Err-clause-act g c =
     let fails = acts_failed (λ seen. seen) c.args.k old.slots (of_places seen c.remove.new.self) c.in-Err.ensures.act in
     let files = c.let_off-in-Err.ensures.files in
     let slots = c.let_off-in-Err.ensures.slots ∙ ap (λ slots. settled_at (unfiled page.0 old.files) c.args.k slots) fails.is in
-    let log = ap (λ (log : Option Kept). option_map log_of log) (c.push-in-Err.ensures ∙ ap (λ (log : Option Kept). option_map (noted (changes.Left page)) log) c.let_off-in-Err.ensures.log) ∙ noted_told (changes.Left page) members.log in
+    let log = ap (λ (log : Option Kept). option_map log_of log) (c.push-in-Err.ensures ∙ ap (λ (log : Option Kept). option_map (noted (changes.Left page)) log)
+    c.let_off-in-Err.ensures.log) ∙ noted_told (changes.Left page) members.log in
     let write = ap (λ (write : Option Writing). option_map open_of write) c.let_off-in-Err.ensures.write in
     record {
       count = fails.count;
@@ -73,5 +77,6 @@ returns-in-Err-clause-room g c =
     let members = c.args.self.now in
     let page = c.args.page in
     let some : IsSome (home_of page.0 members.files.filed) = subst (λ (home : Option (Option ℕ)). IsSome home) (sym c.requires.filed) refl in
-    subst (λ (log : Option Kept). CanRemove c.let_off-in-Err.new.self.files log) (sym (c.push-in-Err.ensures ∙ ap (λ (log : Option Kept). option_map (noted (changes.Left page)) log) c.let_off-in-Err.ensures.log))
+    subst (λ (log : Option Kept). CanRemove c.let_off-in-Err.new.self.files log)
+    (sym (c.push-in-Err.ensures ∙ ap (λ (log : Option Kept). option_map (noted (changes.Left page)) log) c.let_off-in-Err.ensures.log))
     (room_less page.0 (changes.Left page) members.files c.let_off-in-Err.new.self.files members.log some c.let_off-in-Err.ensures.files c.requires.room)

@@ -11,4 +11,5 @@ returns-clause-room g c =
     let members = c.args.self.now in
     let some : IsSome (home_of c.args.page.0 members.files.filed) = subst (λ (home : Option (Option ℕ)). IsSome home) (sym c.requires.filed) refl in
     subst (λ (log : Option Kept). CanRemove c.remove.new.self log) (sym c.push.ensures)
-    (room_less c.args.page.0 (Remove c.args.page) members.files c.remove.new.self members.log some (ap (λ (book : Book). book.filed) c.remove.ensures.rest) c.requires.room)
+    (room_less c.args.page.0 (Remove c.args.page) members.files c.remove.new.self members.log some (ap (λ (book : Book). book.filed) c.remove.ensures.rest)
+    c.requires.room)

@@ -21,11 +21,19 @@ returns-clause-act g c =
     let files = ap (λ (book : Book). book.filed) c.push.ensures in
     let slots = c.retire_writer.ensures ∙ ap (λ files. writer_retired files swept) files in
     let log = ap (λ (log : Option Kept). option_map log_of log) c.push-2.ensures ∙ noted_told (Torn page) members.log in
-    let is : of_members seen (record members { places = c.retire_writer.new.self; files = c.push.new.self; log = c.push-2.new.log }) ≡ record old { slots = writer_retired (old.files ++ record { page = page; home = home } ∷ []) swept; files = old.files ++ record { page = page; home = home } ∷ []; log = told_more (Torn page) old.log } = λ i. record old { slots = slots i; files = files i; log = log i } in
+    let is : of_members seen (record members { places = c.retire_writer.new.self; files = c.push.new.self; log = c.push-2.new.log })
+    ≡ record old {
+      slots = writer_retired (old.files ++ record { page = page; home = home } ∷ []) swept;
+      files = old.files
+          ++ record { page = page; home = home } ∷ [];
+      log = told_more (Torn page) old.log;
+    } = λ i. record old { slots = slots i; files = files i; log = log i }
+    in
     subst (λ (new : Group.Group). Group.Sweeps page old new) (sym is)
     (swept_by page old swept home (subst (λ k. SweepsAt page.0 k old.slots swept home) c.writer-k.ensures.value c.sweep-home.ensures))
 
 pub retire_writer-requires : goal.retire_writer-requires
 retire_writer-requires g c =
     let seen = g.V.Volume.seen in
-    sweeps_writes c.args.page.0 c.writer-k.result (of_places seen c.args.self.now.places) (of_places seen c.sweep-home.new.self) c.sweep-home.result c.sweep-home.ensures ∙ c.requires.writes
+    sweeps_writes c.args.page.0 c.writer-k.result (of_places seen c.args.self.now.places) (of_places seen c.sweep-home.new.self) c.sweep-home.result
+    c.sweep-home.ensures ∙ c.requires.writes

@@ -10,7 +10,8 @@ settle-requires g c =
     let seen = g.V.Volume.seen in
     let old = c.args.self.now.items in
     let new = c.retire.new.self.items in
-    let same : length (of_places seen c.retire.new.self) ≡ length (of_places seen c.args.self.now) = ap length c.retire.ensures ∙ length_changed retired c.writer-k.result (of_places seen c.args.self.now) in
+    let same : length (of_places seen c.retire.new.self) ≡ length (of_places seen c.args.self.now) = ap length c.retire.ensures ∙ length_changed retired
+    c.writer-k.result (of_places seen c.args.self.now) in
     let before : length (of_places seen c.args.self.now) ≡ length old.items = map_length (slot_of seen) old.items in
     let after : length (of_places seen c.retire.new.self) ≡ length new.items = map_length (slot_of seen) new.items in
     record { within = omega (arith, same, before, after, old.ok.0, new.ok.0, c.writer-k.ensures.within) }

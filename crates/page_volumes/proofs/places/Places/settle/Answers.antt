@@ -7,4 +7,5 @@ pub returns : goal.returns
 returns g c =
     let vec = c.args.self.now.items in
     let within : c.args.k < length vec.items = omega (arith, vec.ok.0, c.requires) in
-    Written.changed_places g.V.Volume.seen (settled c.args.is_home) vec.items c.args.k c.index_mut.result.now c.settle.new.self c.index_mut.ensures.value within c.settle.ensures
+    Written.changed_places g.V.Volume.seen (settled c.args.is_home) vec.items c.args.k c.index_mut.result.now c.settle.new.self c.index_mut.ensures.value within
+    c.settle.ensures

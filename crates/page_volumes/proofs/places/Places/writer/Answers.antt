@@ -36,4 +36,6 @@ loop-k-preserved g c =
     let is : place ≡ get_or items c.loop-k.k place = search rules in
     let within : c.loop-k.k < length items = search rules in
     let retired : place.is_retired ≡ true = search rules in
-    subst (λ n. Writers.AllRetired n (slots_of seen items)) (more c.loop-k.k) (Writers.all_retired_more (slots_of seen items) c.loop-k.k (slot_of seen place) (Written.slot_there seen items c.loop-k.k place is within) retired c.loop-k.invariant)
+    subst (λ n. Writers.AllRetired n (slots_of seen items)) (more c.loop-k.k)
+    (Writers.all_retired_more (slots_of seen items) c.loop-k.k (slot_of seen place) (Written.slot_there seen items c.loop-k.k place is within) retired
+    c.loop-k.invariant)
