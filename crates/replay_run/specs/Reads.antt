@@ -1,5 +1,6 @@
 -- What a session tells, line by line. Own.
 use Rattle.std.specs.Prelude.{◌≡◌, ◌≢◌, ◌⊎◌, ◌+◌, ◌^◌, ◌<◌, ◌≤◌, ℕ, Bool, true, false, List, [], ◌∷◌, ◌++◌, length, map, flat_map, Option, None, Some, IfSome}
+use Rattle.blob_words.specs.declared.bounds.TheConstants.{LONGEST_LINE, MOST_LINES}
 use Rattle.blob_source.specs.Lines.{has_line_feed}
 use Rattle.session_script.specs.declared.event.Event.{Event}
 use Rattle.session_script.specs.declared.event.Event.TheVariants as events
@@ -16,7 +17,7 @@ use Rattle.replay_run.specs.Own.{own}
 
 -- an event that a line of a session may spell: at most 2^20 bytes before its line feed
 abbrev pub IsLineOf : Event → Type 0
-IsLineOf event = HasSpelling event × (length (line_of event) ≤ 2 ^ 20)
+IsLineOf event = HasSpelling event × (length (line_of event) ≤ LONGEST_LINE)
 
 -- the events of some groups
 abbrev pub events_of : List Group → List Event
@@ -36,15 +37,15 @@ BeginsWithEvent P bytes = (event : Event) × IsLineOf event × BeginsWith bytes 
 
 -- the bytes begin with a line, not too long, that has this fault
 abbrev pub BeginsWithFault : LineFault → List ℕ → Type 0
-BeginsWithFault fault bytes = (line : List ℕ) × (length line ≤ 2 ^ 20) × (has_line_feed line ≡ false) × BeginsWith bytes line × IsLineFault fault line
+BeginsWithFault fault bytes = (line : List ℕ) × (length line ≤ LONGEST_LINE) × (has_line_feed line ≡ false) × BeginsWith bytes line × IsLineFault fault line
 
 -- the bytes begin with more than 2^20 of which none is a line feed
 abbrev pub IsLong : List ℕ → Type 0
-IsLong bytes = (line : List ℕ) × (more : List ℕ) × (bytes ≡ line ++ more) × (length line ≡ 2 ^ 20 + 1) × (has_line_feed line ≡ false)
+IsLong bytes = (line : List ℕ) × (more : List ℕ) × (bytes ≡ line ++ more) × (length line ≡ LONGEST_LINE + 1) × (has_line_feed line ≡ false)
 
 -- the bytes are the last of the session, not too many, and no line feed is among them
 abbrev pub IsUnended : List ℕ → Type 0
-IsUnended bytes = (0 < length bytes) × (length bytes ≤ 2 ^ 20) × (has_line_feed bytes ≡ false)
+IsUnended bytes = (0 < length bytes) × (length bytes ≤ LONGEST_LINE) × (has_line_feed bytes ≡ false)
 
 -- the word applies to the line that the bytes begin with, but `lines`; of which events `first` and `unbuilt` are said, two predicates tell
 abbrev pub IsBad : (Event → Type 0) → (Event → Type 0) → Reason → List ℕ → Type 0
@@ -85,5 +86,5 @@ IsUnbuilt (group ∷ groups) event = IfSome (limits_of group.event) (λ (l : Lim
 -- the word applies to the line that comes behind these groups: `lines` alone behind the greatest number of them, and any other before it
 abbrev pub IsRefused : List Group → Reason → List ℕ → Type 0
 IsRefused groups reason bytes =
-    ((length groups ≡ 2 ^ 20) × (reason ≡ reasons.Lines) × (bytes ≢ []))
-    ⊎ ((length groups < 2 ^ 20) × IsBad (λ event. IsFirst groups event) (λ event. IsUnbuilt groups event) reason bytes)
+    ((length groups ≡ MOST_LINES) × (reason ≡ reasons.Lines) × (bytes ≢ []))
+    ⊎ ((length groups < MOST_LINES) × IsBad (λ event. IsFirst groups event) (λ event. IsUnbuilt groups event) reason bytes)

@@ -2,6 +2,7 @@
 use Rattle.std.specs.Prelude.{◌≡◌, ◌⊎◌, ◌+◌, ◌^◌, ◌<◌, ◌≤◌, ℕ, Bool, true, false, List, [], ◌∷◌, ◌++◌, length, Option, IfSome, codes}
 use Rattle.std.specs.List.{AllByRecursion}
 use Rattle.std.specs.Io.KnownBytes.{Appends, Consumes, IsAtEnd}
+use Rattle.blob_words.specs.declared.bounds.TheConstants.{MOST_LINES}
 use Rattle.blob_source.specs.Faults.{Rose}
 use Rattle.blob_source.specs.declared.sink.Sink.{Ghosts as Sink}
 use Rattle.blob_source.specs.declared.source.Source.{Ghosts as Source}
@@ -38,7 +39,7 @@ IsLeft Stopped groups unread = (have_ended groups ≡ false) × IsAtEnd unread
 
 -- the group may come behind these ones
 abbrev pub IsNext : List Group → Group → Type 0
-IsNext groups group = IsLegal (groups ++ group ∷ []) × (length groups < 2 ^ 20)
+IsNext groups group = IsLegal (groups ++ group ∷ []) × (length groups < MOST_LINES)
 
 -- a part, which lacks some byte, of what was to be written for the next line: of a group's text, where the line is that of its event, or of the `!` line, where
 -- the line is refused
@@ -70,7 +71,7 @@ pub record IsReplay (told held held' : Option (List ℕ)) (source source' sink s
   pub code : status ≡ code_of ending
   pub legal : IsLegal transcript
   pub lines : AllByRecursion IsLineOf (events_of transcript)
-  pub few : length transcript ≤ 2 ^ 20
+  pub few : length transcript ≤ MOST_LINES
   pub unread : Option (List ℕ)
   pub read : Consumes told unread (spelled (events_of transcript))
   pub left : IsLeft ending transcript unread

@@ -2,6 +2,7 @@
 use Rattle.std.specs.Prelude.{◌≡◌, ◌≢◌, ◌+◌, ◌^◌, ◌<◌, ℕ, true, false, List, [], ◌∷◌, ◌++◌, length, Option, None, IfSome}
 use Rattle.std.specs.List.{AllByRecursion}
 use Rattle.std.specs.Io.KnownBytes.{Appends, Consumes, IsAtEnd}
+use Rattle.blob_words.specs.declared.bounds.TheConstants.{MOST_LINES}
 use Rattle.session_script.specs.Line.{line_of}
 use Rattle.blob_words.specs.declared.limits.Limits.{Limits}
 use Rattle.answer_text.specs.Text.{group_text, groups_text}
@@ -72,7 +73,7 @@ pub record AreTaken (l : Limits) (unread held held' : Option (List ℕ)) (source
   pub groups : List Group
   pub legal : IsLegalFrom l start groups
   pub lines : AllByRecursion IsLineOf (events_of groups)
-  pub few : length groups < 2 ^ 20
+  pub few : length groups < MOST_LINES
   pub unread' : Option (List ℕ)
   pub read : Consumes unread unread' (spelled (events_of groups))
   pub left : IsLeft ending (opening l ∷ groups) unread'

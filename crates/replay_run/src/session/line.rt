@@ -1,6 +1,7 @@
 ghost use Rattle.std.specs.Prelude.{◌≡◌, ◌≤◌, ◌+◌, ◌^◌, ℕ, List, [], ◌∷◌, ◌++◌, Option, false};
 ghost use Rattle.std.specs.Prelude.{length, IfOk, IfErr};
 ghost use Rattle.std.specs.Io.KnownBytes.{Consumes, prepend_known};
+ghost use Rattle.blob_words.specs.declared.bounds.TheConstants.{LONGEST_LINE, MOST_LINES};
 ghost use Rattle.blob_words.specs.declared.limits.Limits.{Limits as SomeLimits};
 ghost use Rattle.blob_source.specs.Lines.{has_line_feed};
 ghost use Rattle.blob_source.specs.declared.line_step.LineStep.TheVariants as steps;
@@ -21,13 +22,14 @@ use crate::store::fault::ApplyFault;
 use crate::turn::Turn;
 use answer_text::stream_group_through;
 use blob_source::{LineReader, LineStep, Sink, Source};
+use blob_words::bounds::MOST_LINES;
 use blob_words::{Failed, Limits};
 use session_script::{Event, read_line};
 use std::alloc::Global;
 use text_fields::buffer::Buffer;
 
 /// The greatest number of lines of a session.
-pub const MAX_LINES: u32 = 1 << 20;
+pub const MAX_LINES: u32 = MOST_LINES as u32;
 
 /// Reads, applies and answers a line.
 fn answer_line<K: Sink>(
@@ -40,7 +42,7 @@ fn answer_line<K: Sink>(
 ) -> Turn
     requires { buffer.old ≡ [] }
     ensures turned { (l : SomeLimits) (h : History) (unread unread' : Option (List ℕ))
-        → Rests l store.old h → length line.now ≤ 2 ^ 20 → has_line_feed line.now ≡ false
+        → Rests l store.old h → length line.now ≤ LONGEST_LINE → has_line_feed line.now ≡ false
         → Consumes unread unread' (line.now ++ 10 ∷ [])
         → Turned l h number unread unread' (K.held out.old) (K.held out.new) store.new result }
     ensures cause { (source : ℕ) → TurnCause result source source (K.faults out.old)
@@ -122,10 +124,10 @@ fn limits_of(event: Event) -> Option<Limits>
 
 /// Reads the limits from the first line.
 fn read_limits<K: Sink>(alloc: Global, line: &[u8], out: &mut K) -> Result<Limits, SessionEnd>
-    ensures limits { length line.now ≤ 2 ^ 20
+    ensures limits { length line.now ≤ LONGEST_LINE
         → IfOk result (λ limits. IsLineOf (events.Limits limits)
         × (line.now ≡ line_of (events.Limits limits)) × (out.new ≡ out.old)) }
-    ensures refused { (unread unread' : Option (List ℕ)) → length line.now ≤ 2 ^ 20
+    ensures refused { (unread unread' : Option (List ℕ)) → length line.now ≤ LONGEST_LINE
         → has_line_feed line.now ≡ false → Consumes unread unread' (line.now ++ 10 ∷ [])
         → IfErr result (EndsAt IsOpening IsOutFirst 1 unread (K.held out.old) (K.held out.new)) }
     ensures cause { (source : ℕ) → IfErr result
@@ -183,7 +185,7 @@ pub fn past_lines<S: Source, K: Sink>(
     out: &mut K,
 ) -> SessionEnd
     ensures ends { reader.old.last ≡ steps.Line
-        → EndsAt IsNone IsOutPast (2 ^ 20 + 1) (prepend_known reader.old.ahead (S.left session.old))
+        → EndsAt IsNone IsOutPast (MOST_LINES + 1) (prepend_known reader.old.ahead (S.left session.old))
         (K.held out.old) (K.held out.new) result }
     ensures cause { reader.old.last ≡ steps.Line
         → HasCause result (S.faults session.old) (S.faults session.new) (K.faults out.old)
