@@ -17,11 +17,10 @@ use Rattle.replay_run.specs.Stands.{Stands}
 use Rattle.replay_run.proofs.PieceLemmas.{pieces_from-length}
 use Rattle.replay_run.proofs.OwnLemmas.{build-pieces, build-plan}
 use Rattle.replay_run.proofs.store.Store.admit.Goals as goal
-use Rattle.blob_model.specs.Session.{page_limit}
 
 -- the pieces that there would be
 all_pieces : (l : Limits) (s : Store) (h : History) (name : ℕ) (parts : List Part) → Stands l s h
-    → length (pieces l h) + length (build_pieces l.page (record { name = name; parts = parts })) ≡ s.shelf.pieces + piece_total (page_limit s) parts
+    → length (pieces l h) + length (build_pieces l.page (record { name = name; parts = parts })) ≡ s.shelf.pieces + piece_total s.limits.page parts
 all_pieces l s h name parts stands =
     ap (λ n. n + length (build_pieces l.page (record { name = name; parts = parts }))) (sym stands.same_pieces)
     ∙ ap (λ n. s.shelf.pieces + n) (pieces_from-length l.page name 0 parts)
