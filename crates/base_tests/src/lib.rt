@@ -1,5 +1,5 @@
-//! Tests of the base crates: copies of names, shares, uses, the quota, plans, segments, views and the first
-//! number that is small enough.
+//! Tests of the base crates: copies of names, shares, uses, the quota, plans, segments, views and
+//! the first number that is small enough.
 #![tactic(auto)]
 
 #[cfg(test)]

@@ -8,7 +8,8 @@ use std::alloc::Global;
 use std::test::Fail;
 use store_reach::live_names;
 
-// A source that one who is held needs, that one, one whom nobody holds, and a broken one with a root.
+// A source that one who is held needs, that one, one whom nobody holds, and a broken one with a
+// root.
 fn put_all(alloc: Global, registry: &mut Registry) -> Result<(), Fail>
     requires { registry.old ≡ book_of [] [] }
 {

@@ -1,4 +1,5 @@
-//! Calls on a registry whose blobs have no bytes. The tests stand on them, and what times the passes.
+//! Calls on a registry whose blobs have no bytes. The tests stand on them, and what times the
+//! passes.
 ghost use Rattle.std.specs.Prelude.{◌≡◌, [], true, length, sum_by, IfOk, OnOk};
 ghost use Rattle.std.specs.List.{AllByRecursion};
 ghost use Rattle.blob_entries.specs.Contents.{step_len};

@@ -1,7 +1,7 @@
-//! Times a line of the greatest length, of pseudo-random bytes: read to its event, and printed, beside
-//! a plain copy of its text and beside its digits alone by `hex`; then the same line with a fault at
-//! its end, a line of very many parts, and very many short lines. Without a word behind the program's
-//! name it does nothing.
+//! Times a line of the greatest length, of pseudo-random bytes: read to its event, and printed,
+//! beside a plain copy of its text and beside its digits alone by `hex`; then the same line with a
+//! fault at its end, a line of very many parts, and very many short lines. Without a word behind
+//! the program's name it does nothing.
 #![tactic(auto)]
 
 use blob_words::{NoMemory, Octets};
