@@ -1,0 +1,6 @@
+mod Decided
+mod Passes
+mod Turned
+mod OwnTests
+mod OwnCount
+mod Judging

@@ -1,0 +1,4 @@
+pub mod Tests
+pub mod Owed
+pub mod OwnTests
+pub mod Judged

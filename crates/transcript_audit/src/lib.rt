@@ -1,0 +1,17 @@
+//! Judges transcripts by the model, and by nothing of the store.
+#![tactic(auto)]
+
+pub mod disk;
+pub mod drops;
+pub mod endings;
+pub mod equal;
+pub mod giving;
+pub mod grants;
+pub mod own;
+pub mod removals;
+pub mod same;
+pub mod settling;
+pub mod stands;
+pub mod starts;
+pub mod told;
+pub mod why;
