@@ -1,9 +1,6 @@
-mod Latest
-mod RunCells
-mod PieceNumbers
-mod Living
-mod Reaching
-mod Lifted
-mod Placing
-mod PlacesFound
-mod Using
+mod Decided
+mod Passes
+mod Turned
+mod OwnTests
+mod OwnCount
+mod Judging

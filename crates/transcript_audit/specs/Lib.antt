@@ -1,12 +1,4 @@
-pub mod Kept
-pub mod Keeps
-pub mod Runs
-pub mod Steps
-pub mod Silent
-pub mod Follows
-pub mod FollowsCourse
-pub mod Chosen
-pub mod Reach
-pub mod Placed
-pub mod Missing
-pub mod Uses
+pub mod Tests
+pub mod Owed
+pub mod OwnTests
+pub mod Judged

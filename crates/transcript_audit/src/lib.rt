@@ -1,28 +1,17 @@
-//! Judges transcripts by the model: each notion of it as a function, on plain lists.
+//! Judges transcripts by the model, and by nothing of the store.
 #![tactic(auto)]
 
-pub mod builds;
-pub mod contents;
-pub mod course;
-pub mod entries;
-pub mod handles;
-pub mod jobs;
-pub mod kept;
-pub mod live;
-pub mod lookups;
-pub mod pages;
-pub mod parts;
-pub mod pieces;
-pub mod reached;
-pub mod readers;
-pub mod recorded;
-pub mod refusals;
-pub mod renderers;
-pub mod run;
-pub mod runs;
-pub mod settle;
-pub mod standing;
-pub mod tally;
-pub mod transport;
-pub mod victims;
-pub mod waits;
+pub mod disk;
+pub mod drops;
+pub mod endings;
+pub mod equal;
+pub mod giving;
+pub mod grants;
+pub mod own;
+pub mod removals;
+pub mod same;
+pub mod settling;
+pub mod stands;
+pub mod starts;
+pub mod told;
+pub mod why;

@@ -1,6 +1,0 @@
-use Rattle.std.proofs.Common.{◌≡◌, take, filter}
-use Rattle.transcript_audit.specs.Reach.{is_reached_in}
-use Rattle.transcript_audit.proofs.reached.reached_from.Given as goal
-
-abbrev pub invariant-loop-piece : goal.invariant-loop-piece
-invariant-loop-piece l = l.found ≡ filter (is_reached_in l.granted l.builds l.places) (take l.piece-index l.pieces)

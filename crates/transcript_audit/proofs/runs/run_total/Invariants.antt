@@ -1,6 +1,0 @@
-use Rattle.std.proofs.Common.{◌≡◌, ℕ, ◌+◌, ◌*◌, ◌≤◌, ◌^◌, length, take, drop}
-use Rattle.transcript_audit.specs.Runs.{cells_of_runs}
-use Rattle.transcript_audit.proofs.runs.run_total.Given as goal
-
-abbrev pub invariant-loop-run : goal.invariant-loop-run
-invariant-loop-run l = (l.total ≡ length (cells_of_runs (take l.run-index l.runs))) × (l.total ≤ l.run-index * 2 ^ 64)

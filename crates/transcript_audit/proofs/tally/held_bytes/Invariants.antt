@@ -1,7 +1,0 @@
-use Rattle.std.proofs.Common.{◌≡◌, sum_by, take, filter}
-use Rattle.blob_model.specs.Pages.{page_size}
-use Rattle.transcript_audit.specs.Placed.{holds_some}
-use Rattle.transcript_audit.proofs.tally.held_bytes.Given as goal
-
-abbrev pub invariant-loop-page : goal.invariant-loop-page
-invariant-loop-page l = l.total ≡ sum_by (page_size l.all) (filter (holds_some l.pages l.builds l.list) (take l.page-index l.pages))

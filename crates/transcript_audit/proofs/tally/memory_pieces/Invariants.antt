@@ -1,6 +1,0 @@
-use Rattle.std.proofs.Common.{◌≡◌, take}
-use Rattle.transcript_audit.specs.Placed.{memory_pieces}
-use Rattle.transcript_audit.proofs.tally.memory_pieces.Given as goal
-
-abbrev pub invariant-loop-piece : goal.invariant-loop-piece
-invariant-loop-piece l = l.found ≡ memory_pieces l.pages l.builds (take l.piece-index l.list)
