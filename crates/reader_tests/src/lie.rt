@@ -32,7 +32,8 @@ fn object_has(handles: &HandleTable, slot: u32, off: u64, len: u64) -> bool
 
 fn item_lies(item: &Item, off: u64, len: u64, handles: &HandleTable) -> bool
     ensures { (files : List (List ℕ × FileNote)) → OnTrue result
-        (Lies (origins files None (of_table ⟦<Boxed as DataHandle>⟧.seen handles.now)) off len item.now) }
+        (Lies (origins files None (of_table ⟦<Boxed as DataHandle>⟧.seen handles.now)) off len
+        item.now) }
 {
     match item {
         Item::Memory { bytes, .. } => fits(off, len, bytes.len() as u64),
@@ -53,7 +54,8 @@ fn item_lies(item: &Item, off: u64, len: u64, handles: &HandleTable) -> bool
 
 fn view_lies(view: &View, shares: &Shares, handles: &HandleTable) -> bool
     ensures { (files : List (List ℕ × FileNote)) → OnTrue result
-        (ViewLies (origins files None (of_table ⟦<Boxed as DataHandle>⟧.seen handles.now)) shares.now view.now) }
+        (ViewLies (origins files None (of_table ⟦<Boxed as DataHandle>⟧.seen handles.now))
+        shares.now view.now) }
 {
     match shares.get(view.slot) {
         Some(item) => item_lies(item, view.off, view.len, handles),
@@ -64,7 +66,8 @@ fn view_lies(view: &View, shares: &Shares, handles: &HandleTable) -> bool
 /// Whether all views lie inside their items.
 pub fn views_lie(views: &[View], shares: &Shares, handles: &HandleTable) -> bool
     ensures { (files : List (List ℕ × FileNote)) → OnTrue result (AllByRecursion
-        (ViewLies (origins files None (of_table ⟦<Boxed as DataHandle>⟧.seen handles.now)) shares.now) views.now) }
+        (ViewLies (origins files None (of_table ⟦<Boxed as DataHandle>⟧.seen handles.now))
+        shares.now) views.now) }
 {
     for view in views {
         if !view_lies(view, shares, handles) {

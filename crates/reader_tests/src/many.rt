@@ -58,7 +58,8 @@ fn is_in_memory(view: &View, shares: &Shares) -> bool
 
 // Whether all views lie inside pieces in memory.
 fn are_in_memory(views: &[View], shares: &Shares) -> bool
-    ensures { (from : Origins) → OnTrue result (AllByRecursion (ViewLies from shares.now) views.now) }
+    ensures { (from : Origins) → OnTrue result
+        (AllByRecursion (ViewLies from shares.now) views.now) }
 {
     for view in views {
         if !is_in_memory(view, shares) {
