@@ -1,0 +1,12 @@
+pub mod Latest
+pub mod RunCells
+pub mod PieceNumbers
+pub mod Living
+pub mod Reaching
+pub mod Lifted
+pub mod Placing
+pub mod PlacesFound
+pub mod Using
+pub mod Forms
+pub mod Planning
+pub mod Slots

@@ -1,0 +1,13 @@
+-- What is kept takes the answer, and all else stays.
+use Rattle.history_notions.proofs.contents.Contents.say.Goals as goal
+
+pub returns : goal.returns
+returns c = λ s h follows. record {
+  keeps = c.in_ok-say.ensures h follows.keeps;
+  limits_are = follows.limits_are;
+  version_is = follows.version_is;
+  outside_is = follows.outside_is;
+  builds_are = follows.builds_are;
+  pieces_are = follows.pieces_are;
+  readers_are = follows.readers_are;
+}

@@ -1,0 +1,11 @@
+-- One piece more was looked up.
+use Rattle.std.proofs.Common.{arith}
+use Rattle.std.proofs.lemmas.Grind.{common_steps}
+use Rattle.std.proofs.lemmas.List.Elements.{filter_map-append}
+use Rattle.history_notions.proofs.victims.recency.Goals as goal
+use Rattle.history_notions.proofs.victims.recency.Goals.{in-Some+in_ok-push, in_default}
+
+pub loop-number-preserved : goal.loop-number-preserved
+loop-number-preserved c =
+    elim c.match-with_length.branch
+    [ in-Some+in_ok-push w ↦ grind (arith, common_steps, filter_map-append) | in_default w ↦ grind (arith, common_steps, filter_map-append) ]

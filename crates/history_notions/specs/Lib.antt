@@ -1,0 +1,14 @@
+pub mod Kept
+pub mod Keeps
+pub mod Runs
+pub mod Steps
+pub mod Silent
+pub mod Follows
+pub mod FollowsCourse
+pub mod Chosen
+pub mod Reach
+pub mod Placed
+pub mod Missing
+pub mod Uses
+pub mod Planned
+pub mod Slots
