@@ -48,3 +48,4 @@ pub mod Entering
 pub mod NameForms
 pub mod UrlForms
 pub mod UrlRefusals
+pub mod Told

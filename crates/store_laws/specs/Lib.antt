@@ -27,3 +27,4 @@ pub mod BuildLaws
 pub mod PartLaws
 pub mod EntryLaws
 pub mod UrlForms
+pub mod TellLaws

@@ -12,6 +12,7 @@ ghost use Rattle.store_laws.specs.LetGo.{ItemsLetGo, OrderLetGo, PagesLetGo, Que
 ghost use Rattle.store_laws.specs.LineLaws.{LinesStand, NewStands, NoneIsMarked};
 ghost use Rattle.store_laws.specs.SweepLaws.{SweepLeavesLive};
 ghost use Rattle.store_laws.specs.Swept.{SweptStands};
+ghost use Rattle.store_laws.specs.TellLaws.{TellsCells};
 
 /// A line's own answers and the seven lists of settling, each after the one before, make a legal
 /// group.
@@ -172,4 +173,10 @@ pub fn unbuilt_unended()
 /// hand, waiting for room, or with segments that go to page files.
 pub fn new_entries()
     ensures { NewEntries }
+{}
+
+/// A byte that is told of a place in an item which is in no page file is the byte that the history
+/// says of its cell.
+pub fn tells_cells()
+    ensures { TellsCells }
 {}
