@@ -48,3 +48,6 @@ pub mod Entering
 pub mod NameForms
 pub mod UrlForms
 pub mod UrlRefusals
+pub mod Resolving
+pub mod Openings
+pub mod OpeningRefusals
