@@ -18,7 +18,7 @@ use Rattle.blob_entries.specs.Changes.{held_less, held_more}
 use Rattle.blob_entries.specs.declared.entry.Entry.{Entry}
 use Rattle.data_handles.specs.Table.{Table as HandleTable}
 use Rattle.file_table.specs.Changes.{Notes}
-use Rattle.file_table.specs.Files.{fault_of, note_of, state_of}
+use Rattle.file_table.specs.Files.{fault_of, note_of}
 use Rattle.file_table.specs.declared.file_note.FileNote.{FileNote}
 use Rattle.page_disk.specs.declared.change.Change.{Change}
 use Rattle.renderer_table.specs.Counted.{origin_at, ChangesCount}
@@ -42,7 +42,7 @@ use Rattle.store_laws.proofs.ApartHistories.{keys_differ}
 use Rattle.store_laws.proofs.LineRefusals.{own_accepted}
 use Rattle.store_laws.proofs.Rerooted.{changed_rerooted}
 use Rattle.store_laws.proofs.TableLines.{table_lines_stand}
-use Rattle.store_laws.proofs.TableRefusals.{cancel_known, die_known, file_known, file_refusal, gone_accepted, gone_refused, owned_so, pass_known, pass_refusal, revoke_known}
+use Rattle.store_laws.proofs.TableRefusals.{cancel_known, die_known, file_known, file_refusal, gone_accepted, owned_so, pass_known, pass_refusal, revoke_known}
 use Rattle.store_laws.proofs.Unmarked.{none_marked}
 use Rattle.store_laws.proofs.UrlForms.{url_forms_agree}
 use Rattle.store_laws.proofs.UrlRefusals.{origin_known, url_accepted, url_formless, url_full, url_taken}
@@ -142,7 +142,7 @@ module _ (s : Session) (groups : List Group) (parts : Parts) (told : Option (Lis
   moved book renderers urls files readers =
       record parts { registry = book; renderers = renderers; urls = urls; files = files; readers = readers }
 
-  seen : (later : History) (book : Book) (renderers : Table) (urls : List (List ℕ × Url)) (files : List (List ℕ × FileNote))
+  pub seen : (later : History) (book : Book) (renderers : Table) (urls : List (List ℕ × Url)) (files : List (List ℕ × FileNote))
       (readers : List (ℕ × OpenReader)) → AreRerooted parts.registry book
       → Between s later (is_live s.limits.page h) (counted (record (parts_of parts) {
         book = book;

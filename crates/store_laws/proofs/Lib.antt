@@ -49,3 +49,6 @@ pub mod NameForms
 pub mod UrlForms
 pub mod UrlRefusals
 pub mod Told
+pub mod Resolving
+pub mod Openings
+pub mod OpeningRefusals

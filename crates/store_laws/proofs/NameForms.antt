@@ -44,8 +44,8 @@ from_each test from [] each = refl
 from_each test from (byte ∷ text) each =
     join (test (from, byte)) (list_all test (enumerate_from (from + 1) text)) (ap (λ (place : ℕ). test (place, byte)) (sym (none from)) ∙ each zero (omega arith))
     (from_each test (from + 1) text (λ k within.
-      let same : from + 1 + k ≡ from + suc k = omega arith in
-      ap (λ (place : ℕ). test (place, get_or text k 0)) same ∙ each (suc k) (omega arith)))
+    let same : from + 1 + k ≡ from + suc k = omega arith in
+    ap (λ (place : ℕ). test (place, get_or text k 0)) same ∙ each (suc k) (omega arith)))
 
 -- ---- the number of bytes
 
@@ -179,7 +179,7 @@ text_spelled text long each =
         let low : digit_place k < 32 = grind (arith, nat_tests) in
         let back : hyphen_place (digit_place k) ≡ k = grind (arith, nat_tests) in
         sym (nibble_spelled text fits (digit_place k) low ∙ ap value_of (digit_at text (digit_place k) low)
-          ∙ ap (λ (n : ℕ). value_of (slice_index text n)) back)
+        ∙ ap (λ (n : ℕ). value_of (slice_index text n)) back)
 
     by_place : (b : Bool) (k : ℕ) → k < 36 → has_hyphen k ≡ b → get_or text k 0 ≡ (if b then 45 else hex_digit lower (value_of (get_or text k 0)))
         → get_or text k 0 ≡ (if b then 45 else hex_digit lower (nibble (spelled text) (digit_place k)))
@@ -194,16 +194,16 @@ name_of_form text is =
     let parts = both (length text == 36) (list_all is_name_byte (enumerate_from 0 text)) is in
     let long : length text ≡ 36 = grind (arith, nat_tests) in
     let each : (k : ℕ) → k < 36 → is_name_byte (k, get_or text k 0) ≡ true = λ k within.
-      ap (λ (place : ℕ). is_name_byte (place, get_or text k 0)) (plain k) ∙ at_each is_name_byte 0 text parts.1 k (omega (arith, long)) in
+    ap (λ (place : ℕ). is_name_byte (place, get_or text k 0)) (plain k) ∙ at_each is_name_byte 0 text parts.1 k (omega (arith, long)) in
     let many : length (spelled text) ≡ 16 = by_index_length 16 (byte_of_digits (digits_of text)) in
     let fits : (k : ℕ) → k < length (spelled text) → get_or (spelled text) k 0 < 256 = λ k within.
-      let low : k < 16 = omega (arith, many) in
-      let high = digits_fit text long each (2 * k) (omega arith) in
-      let small = digits_fit text long each (2 * k + 1) (omega arith) in
-      rw (byte_spelled text k low) (omega (arith, high, small)) in
+    let low : k < 16 = omega (arith, many) in
+    let high = digits_fit text long each (2 * k) (omega arith) in
+    let small = digits_fit text long each (2 * k + 1) (omega arith) in
+    rw (byte_spelled text k low) (omega (arith, high, small)) in
     let bound : value (spelled text) < 256 ^ 16 = subst (λ (n : ℕ). value (spelled text) < 256 ^ n) many (value_fits (spelled text) fits) in
     let back : bytes_high_first 16 (value (spelled text)) ≡ spelled text =
-      ap (λ (n : ℕ). bytes_high_first n (value (spelled text))) (sym many) ∙ bytes_of_value (spelled text) fits in
+    ap (λ (n : ℕ). bytes_high_first n (value (spelled text))) (sym many) ∙ bytes_of_value (spelled text) fits in
     (value (spelled text), omega (arith, bound), text_spelled text long each ∙ ap (hyphenated_text lower) (sym back))
 
 -- ---- and a name's text has that form
@@ -213,11 +213,11 @@ form_of_name name =
     let bytes = to_be_bytes w128 name in
     let long : length (name_text name) ≡ 36 = by_index_length 36 (λ k. if has_hyphen k then 45 else hex_digit lower (nibble bytes (digit_place k))) in
     let at : (k : ℕ) → k < 36 → get_or (name_text name) k 0 ≡ (if has_hyphen k then 45 else hex_digit lower (nibble bytes (digit_place k))) = λ k within.
-      by_index_at 36 (λ k. if has_hyphen k then 45 else hex_digit lower (nibble bytes (digit_place k))) k 0 within in
+    by_index_at 36 (λ k. if has_hyphen k then 45 else hex_digit lower (nibble bytes (digit_place k))) k 0 within in
     join (length (name_text name) == 36) (list_all is_name_byte (enumerate_from 0 (name_text name))) (rw long refl)
     (from_each is_name_byte 0 (name_text name) (λ k within.
-      ap (λ (place : ℕ). is_name_byte (place, get_or (name_text name) k 0)) (sym (plain k))
-      ∙ go k (get_or (name_text name) k 0) (nibble bytes (digit_place k)) (at k (omega (arith, long))) (nibble_small bytes (digit_place k))))
+    ap (λ (place : ℕ). is_name_byte (place, get_or (name_text name) k 0)) (sym (plain k))
+    ∙ go k (get_or (name_text name) k 0) (nibble bytes (digit_place k)) (at k (omega (arith, long))) (nibble_small bytes (digit_place k))))
   where
     go : (k byte d : ℕ) → byte ≡ (if has_hyphen k then 45 else hex_digit lower d) → d < 16 → is_name_byte (k, byte) ≡ true
     go k byte d is small = by (has_hyphen k) byte d is small

@@ -1,27 +1,30 @@
 -- What stands under a name tells the blob of that name: what `stat` answers.
-use Rattle.std.proofs.Common.{◌≡◌, ℕ, zero, suc, ◌+◌, ◌==◌, Bool, true, false, List, [], ◌∷◌, map, refl, ap, subst, sym, ◌∙◌, Option, Some, None, cond, inl, arith}
-use Rattle.std.specs.Prelude.{option_and_then, unwrap_or}
+use Rattle.std.proofs.Common.{◌≡◌, ℕ, suc, ◌+◌, ◌==◌, Bool, true, false, List, [], ◌∷◌, map, refl, ap, subst, sym, ◌∙◌, Option, Some, None, cond, inl, arith}
+use Rattle.std.specs.Prelude.{option_and_then, unwrap_or, if◌then◌else◌}
 use Rattle.std.specs.Option.{option_map, option_map_or}
 use Rattle.std.proofs.lemmas.Bool.{eq-eqb, eqb-true}
 use Rattle.blob_words.specs.declared.number.RendererId.{RendererId}
 use Rattle.blob_words.specs.declared.status.Status.{Status}
 use Rattle.blob_words.specs.declared.status.Status.TheVariants as statuses
 use Rattle.session_script.specs.declared.event.Event.TheVariants as events
-use Rattle.answer_text.specs.declared.answer.Answer.{Answer}
 use Rattle.answer_text.specs.declared.answer.Answer.TheVariants as answers
 use Rattle.data_handles.specs.Table.{Table as HandleTable}
 use Rattle.page_disk.specs.declared.change.Change.{Change}
-use Rattle.blob_entries.specs.Book.{Book, entry_at, entry_of}
+use Rattle.blob_entries.specs.Book.{entry_at, entry_of}
 use Rattle.blob_entries.specs.Names.{number_of}
+use Rattle.blob_entries.specs.Statuses.{is_broken}
 use Rattle.blob_entries.specs.declared.entry.Entry.{Entry}
 use Rattle.blob_model.specs.Builds.{Build, build_in, builds, size_in}
 use Rattle.blob_model.specs.History.{History}
 use Rattle.blob_model.specs.Own.{IsAccepted, kind_in, pending_status, status_of}
 use Rattle.blob_model.specs.Session.{Session}
-use Rattle.blob_model.specs.Standing.{ended}
-use Rattle.store_laws.specs.Outlines.{Outline, outline, outline_of, status_now}
+use Rattle.blob_model.specs.Standing.{ended, is_broken_status}
+use Rattle.blob_model.specs.Standing.{is_broken as was_broken}
+use Rattle.blob_model.specs.Transport.{has_all}
+use Rattle.blob_model.specs.Waits.{is_waiting}
+use Rattle.store_laws.specs.Outlines.{Outline, outline, outline_of}
 use Rattle.store_laws.specs.Stands.{Between, Parts}
-use Rattle.store_laws.proofs.Paired.{AreOutlined, IsTold, by_first, first_of, rest_of}
+use Rattle.store_laws.proofs.Paired.{AreOutlined, by_first, first_of, rest_of}
 
 -- the blob of a name, and what its entry says of it
 pub record IsBuiltAs (s : Session) (h : History) (list : List Build) (name : ℕ) (entry : Entry) : Type 0 where
@@ -79,6 +82,16 @@ module _ (s : Session) (h : History) (stands : ℕ → Bool) (name : ℕ) (entry
           let later : entry_at entries number ≡ Some entry = subst (λ (n : ℕ). entry_at (held ∷ entries) n ≡ Some entry) next is in
           one_more build list same (rest (ap (option_and_then (entry_at entries)) there ∙ later))
 
+-- entries and histories call the same statuses broken
+broken_so : (status : Status) → is_broken status ≡ is_broken_status status
+broken_so statuses.InvalidArguments = refl
+broken_so statuses.OutOfMemory = refl
+broken_so statuses.FileWriteFailed = refl
+broken_so statuses.SourceDied = refl
+broken_so statuses.ReferencedBlobBroken = refl
+broken_so statuses.ReferencedFileUnavailable = refl
+broken_so status = refl
+
 module _ (s : Session) (h : History) (stands : ℕ → Bool) (parts : Parts) (told : Option (List Change)) (table : HandleTable)
     (between : Between s h stands parts told table) (name : ℕ) (entry : Entry) (at : entry_of parts.book name ≡ Some entry) where
   built : IsBuiltAs s h (builds s.limits.page h) name entry
@@ -86,12 +99,12 @@ module _ (s : Session) (h : History) (stands : ℕ → Bool) (parts : Parts) (to
       entry_built s h stands name entry (builds s.limits.page h) parts.book.entries between.contents.outlines_stand
       (ap (λ (names : List ℕ). option_and_then (entry_at parts.book.entries) (number_of name names)) (sym between.contents.names) ∙ at)
 
-  size_told : entry.size ≡ size_in (builds s.limits.page h) name
+  pub size_told : entry.size ≡ size_in (builds s.limits.page h) name
   size_told =
       ap (λ (o : Outline). o.size) built.outline_is
       ∙ sym (ap (λ (o : Option Build). option_map_or (λ (build : Build). (outline_of s h build).size) o 0) built.found)
 
-  kind_told : entry.kind ≡ kind_in (builds s.limits.page h) name
+  pub kind_told : entry.kind ≡ kind_in (builds s.limits.page h) name
   kind_told =
       ap (λ (o : Outline). o.kind) built.outline_is ∙ sym (ap (λ (o : Option Build). option_map_or (λ (build : Build). build.kind) o []) built.found)
 
@@ -100,6 +113,26 @@ module _ (s : Session) (h : History) (stands : ℕ → Bool) (parts : Parts) (to
       ap (λ (o : Outline). o.status) built.outline_is
       ∙ ap (λ (n : ℕ). unwrap_or (ended h n) (pending_status s h built.build)) built.same_name
       ∙ sym (ap (λ (o : Option Build). unwrap_or (ended h name) (option_map_or (pending_status s h) o statuses.PendingTransport)) built.found)
+
+  -- what stands there is broken where the blob is
+  pub broken_told : is_broken entry.status ≡ was_broken h name
+  broken_told = ap is_broken status_told ∙ by (ended h name)
+    where
+      pending_by : (waits all : Bool)
+          → is_broken (if waits then statuses.PendingQuota else (if all then statuses.PendingReferencedBlobs else statuses.PendingTransport)) ≡ false
+      pending_by true all = refl
+      pending_by false true = refl
+      pending_by false false = refl
+
+      pending : (found : Option Build) → is_broken (option_map_or (pending_status s h) found statuses.PendingTransport) ≡ false
+      pending None = refl
+      pending (Some build) = pending_by (is_waiting h build) (has_all s.limits h build)
+
+      by : (found : Option Status)
+          → is_broken (unwrap_or found (option_map_or (pending_status s h) (build_in (builds s.limits.page h) name) statuses.PendingTransport))
+          ≡ option_map_or is_broken_status found false
+      by None = pending (build_in (builds s.limits.page h) name)
+      by (Some status) = broken_so status
 
   -- what is told is what the history says
   pub stat_accepted : (renderer : RendererId) → IsAccepted s h (events.Stat renderer name) (answers.Told name entry.size entry.kind entry.status ∷ [])

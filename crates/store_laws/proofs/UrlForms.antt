@@ -18,9 +18,12 @@ named : (origin text : List ℕ) → is_url_of origin text ≡ true → IsBlobUr
 named origin text is =
     let n = length (url_front origin) in
     let parts = both (bytes_eq (take n text) (url_front origin)) (is_name_text (drop n text)) is in
-    let name = name_of_form (drop n text) parts.1 in
-    (name.0, name.1, sym (take-append-drop n text) ∙ ap (λ (front : List ℕ). front ++ drop n text) (equal_bytes (take n text) (url_front origin) parts.0)
-    ∙ ap (λ (rest : List ℕ). url_front origin ++ rest) name.2 ∙ grouped origin (name_text name.0))
+    let name = name_of_form (drop n text) parts.1 in (
+      name.0,
+      name.1,
+      sym (take-append-drop n text) ∙ ap (λ (front : List ℕ). front ++ drop n text) (equal_bytes (take n text) (url_front origin) parts.0)
+          ∙ ap (λ (rest : List ℕ). url_front origin ++ rest) name.2 ∙ grouped origin (name_text name.0),
+    )
 
 formed : (origin text : List ℕ) → IsBlobUrl origin text → is_url_of origin text ≡ true
 formed origin text url =

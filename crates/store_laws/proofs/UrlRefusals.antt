@@ -30,7 +30,7 @@ use Rattle.store_laws.proofs.LineRefusals.{alive_known}
 -- ---- tests in a row
 
 -- the tests on a handle, and others behind them
-handle_cases : RendererId → ℕ → Option Living → ℕ → List (Bool × Refusal) → Option Refusal
+pub handle_cases : RendererId → ℕ → Option Living → ℕ → List (Bool × Refusal) → Option Refusal
 handle_cases renderer name held n rest =
     first_that ((not (is_some held), refusals.NoRenderer renderer) ∷ (not (nat_lt 0 n), refusals.NoHandle renderer name) ∷ rest)
 
@@ -38,7 +38,7 @@ abbrev handle_fault : RendererId → ℕ → Option Living → ℕ → Option Re
 handle_fault renderer name held n =
     if is_none held then Some (refusals.NoRenderer renderer) else if n == 0 then Some (refusals.NoHandle renderer name) else None
 
-handle_first : (renderer : RendererId) (name : ℕ) (held : Option Living) (n : ℕ) (rest : List (Bool × Refusal)) (why : Refusal)
+pub handle_first : (renderer : RendererId) (name : ℕ) (held : Option Living) (n : ℕ) (rest : List (Bool × Refusal)) (why : Refusal)
     → handle_fault renderer name held n ≡ Some why → handle_cases renderer name held n rest ≡ Some why
 unfolding handle_cases
 handle_first renderer name None n rest why due = due
@@ -46,7 +46,7 @@ handle_first renderer name (Some one) zero rest why due = due
 handle_first renderer name (Some one) (suc n) rest why due =
     absurd (cc (sym (ap (λ (b : Bool). cond b (Some (refusals.NoHandle renderer name)) None) (ne_eqb (suc n) 0 (λ same. absurd (omega (arith, same))))) ∙ due))
 
-handle_left : (renderer : RendererId) (name : ℕ) (held : Option Living) (n : ℕ) (rest : List (Bool × Refusal)) → handle_fault renderer name held n ≡ None
+pub handle_left : (renderer : RendererId) (name : ℕ) (held : Option Living) (n : ℕ) (rest : List (Bool × Refusal)) → handle_fault renderer name held n ≡ None
     → handle_cases renderer name held n rest ≡ first_that rest
 unfolding handle_cases
 handle_left renderer name None n rest due = absurd (cc due)
@@ -72,27 +72,30 @@ module _ (s : Session) (h : History) (stands : ℕ → Bool) (parts : Parts) (to
       by true e = cc e
       by false e = absurd (cc e)
 
-  url_known : (renderer : RendererId) (name : ℕ) (text : List ℕ) → refusal s h (events.Url renderer name text)
-      ≡ handle_cases renderer name (living_of renderer.0 parts.renderers) (count_of renderer.0 name parts.renderers)
-          (url_cases (is_url_of (origin_of h renderer.0) text) (is_some (url_at text parts.urls)) (length parts.urls))
+  -- the tests on a handle, with others behind them
+  pub handled : (renderer : RendererId) (name : ℕ) (rest : List (Bool × Refusal))
+      → first_that ((not (is_alive h renderer.0), refusals.NoRenderer renderer) ∷ (not (has_handle h renderer.0 name), refusals.NoHandle renderer name) ∷ rest)
+      ≡ handle_cases renderer name (living_of renderer.0 parts.renderers) (count_of renderer.0 name parts.renderers) rest
   unfolding handle_cases
-  url_known renderer name text =
-      ap (λ (b : Bool). first_that ((not b, refusals.NoRenderer renderer) ∷ (not (has_handle h renderer.0 name), refusals.NoHandle renderer name)
-      ∷ url_cases (is_url_of (origin_of h renderer.0) text) (is_some (entry_at (entries h) text)) (length (entries h))))
+  handled renderer name rest =
+      ap (λ (b : Bool). first_that ((not b, refusals.NoRenderer renderer) ∷ (not (has_handle h renderer.0 name), refusals.NoHandle renderer name) ∷ rest))
       (sym (alive_known s h stands parts told table between renderer.0))
       ∙ ap (λ (n : ℕ). first_that ((not (is_some (living_of renderer.0 parts.renderers)), refusals.NoRenderer renderer)
-      ∷ (not (nat_lt 0 n), refusals.NoHandle renderer name)
-      ∷ url_cases (is_url_of (origin_of h renderer.0) text) (is_some (entry_at (entries h) text)) (length (entries h))))
-      (sym (between.tables.renderers.counts renderer.0 name))
-      ∙ ap (λ (b : Bool). first_that ((not (is_some (living_of renderer.0 parts.renderers)), refusals.NoRenderer renderer)
-      ∷ (not (nat_lt 0 (count_of renderer.0 name parts.renderers)), refusals.NoHandle renderer name)
-      ∷ url_cases (is_url_of (origin_of h renderer.0) text) b (length (entries h))))
+      ∷ (not (nat_lt 0 n), refusals.NoHandle renderer name) ∷ rest)) (sym (between.tables.renderers.counts renderer.0 name))
+
+  url_known : (renderer : RendererId) (name : ℕ) (text : List ℕ) → refusal s h (events.Url renderer name text)
+      ≡ handle_cases renderer name (living_of renderer.0 parts.renderers) (count_of renderer.0 name parts.renderers)
+      (url_cases (is_url_of (origin_of h renderer.0) text) (is_some (url_at text parts.urls)) (length parts.urls))
+  url_known renderer name text =
+      handled renderer name (url_cases (is_url_of (origin_of h renderer.0) text) (is_some (entry_at (entries h) text)) (length (entries h)))
+      ∙ ap (λ (b : Bool). behind renderer name (url_cases (is_url_of (origin_of h renderer.0) text) b (length (entries h))))
       (sym (ap (λ (found : Option Url). is_some found) (between.tables.urls_stand.each text) ∙ mapped (entry_at (entries h) text)))
-      ∙ ap (λ (n : ℕ). first_that ((not (is_some (living_of renderer.0 parts.renderers)), refusals.NoRenderer renderer)
-      ∷ (not (nat_lt 0 (count_of renderer.0 name parts.renderers)), refusals.NoHandle renderer name)
-      ∷ url_cases (is_url_of (origin_of h renderer.0) text) (is_some (url_at text parts.urls)) n))
+      ∙ ap (λ (n : ℕ). behind renderer name (url_cases (is_url_of (origin_of h renderer.0) text) (is_some (url_at text parts.urls)) n))
       (sym between.tables.urls_stand.many)
     where
+      behind : RendererId → ℕ → List (Bool × Refusal) → Option Refusal
+      behind one blob rest = handle_cases one blob (living_of one.0 parts.renderers) (count_of one.0 blob parts.renderers) rest
+
       mapped : (found : Option Entry) → is_some (option_map (url_of (origin_of h)) found) ≡ is_some found
       mapped None = refl
       mapped (Some entry) = refl

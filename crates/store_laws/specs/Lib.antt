@@ -23,6 +23,7 @@ pub mod Swept
 pub mod Roots
 pub mod Apart
 pub mod TableLaws
+pub mod OpeningLaws
 pub mod BuildLaws
 pub mod PartLaws
 pub mod EntryLaws

@@ -1,5 +1,6 @@
 //! Lines that change renderers, URLs, files and readers, and the roots of blobs.
 ghost use Rattle.store_laws.specs.Apart.{KeysDiffer};
+ghost use Rattle.store_laws.specs.OpeningLaws.{OpeningsStand};
 ghost use Rattle.store_laws.specs.TableLaws.{TableLinesStand};
 ghost use Rattle.store_laws.specs.UrlForms.{UrlFormsAgree};
 
@@ -12,6 +13,12 @@ pub fn keys_differ()
 /// records or forgets a file, closes a reader, or lets a renderer die.
 pub fn table_lines_stand()
     ensures { TableLinesStand }
+{}
+
+/// The parts stand for the history with a line that opens a reader on a blob, by its name or by a URL
+/// that leads to it.
+pub fn openings_stand()
+    ensures { OpeningsStand }
 {}
 
 /// A text has the form of a blob URL of an origin exactly where it names a blob.
