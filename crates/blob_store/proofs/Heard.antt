@@ -22,7 +22,7 @@ use Rattle.blob_model.specs.History.{History, has_ended, heard, history_from, st
 use Rattle.blob_model.specs.Legal.{IsLegalFrom}
 use Rattle.blob_model.specs.Live.{is_live}
 use Rattle.blob_model.specs.Refusals.{refusal}
-use Rattle.blob_model.specs.Session.{Session}
+use Rattle.blob_model.specs.Session.{Session, page_limit}
 use Rattle.blob_model.proofs.legal.Steps.{caused_from, unspawned_alive}
 use Rattle.store_laws.specs.CountLaws.{how_many}
 use Rattle.store_laws.specs.LineLaws.{counted, handle_refusal, AreUnmarked}
@@ -65,12 +65,12 @@ module _ (s : Session) (groups : List Group) (parts : Parts) (told : Option (Lis
   h = history_from start groups
 
   unmarked : AreUnmarked parts.registry.entries
-  unmarked = none_marked s groups (is_live s.limits.page h) (parts_of parts) told table legal stands.between
+  unmarked = none_marked s groups (is_live (page_limit s) h) (parts_of parts) told table legal stands.between
 
   pub heard_refused : (event : Event) (why : Refusal) → refusal s h event ≡ Some why → IsHeard s h event (answers.Refused why ∷ []) (scene parts told table)
   heard_refused event why due = record {
     is_own = own_refused s h event why due;
-    stands = lines_stand.refusing event why s h (is_live s.limits.page h) (parts_of parts) told table unmarked stands.between;
+    stands = lines_stand.refusing event why s h (is_live (page_limit s) h) (parts_of parts) told table unmarked stands.between;
   }
 
   -- a part was handed back as it was
@@ -91,8 +91,8 @@ module _ (s : Session) (groups : List Group) (parts : Parts) (told : Option (Lis
       let unspawned = sym (stands.between.tables.renderers.spawned renderer.0) ∙ fresh in
       record {
         is_own = own_accepted s h (events.Spawn renderer origin) (answers.Good ∷ [])
-            (spawn_accepted s h (is_live s.limits.page h) (parts_of parts) told table stands.between renderer origin due) (inl refl);
-        stands = lines_stand.spawning s h (is_live s.limits.page h) (parts_of parts) told table unmarked stands.between
+            (spawn_accepted s h (is_live (page_limit s) h) (parts_of parts) told table stands.between renderer origin due) (inl refl);
+        stands = lines_stand.spawning s h (is_live (page_limit s) h) (parts_of parts) told table unmarked stands.between
             (owners_spawned s h (caused_from s groups legal)) renderer origin renderers
             (unspawned_alive s h renderer.0 (caused_from s groups legal) still unspawned) fresh spawns;
       }
@@ -102,14 +102,14 @@ module _ (s : Session) (groups : List Group) (parts : Parts) (told : Option (Lis
       → IsHeard s h (events.Drop renderer name) (answers.Good ∷ []) (scene (record parts { registry = book; renderers = renderers }) told table)
   heard_drop renderer name book renderers due is changes = record {
     is_own = own_accepted s h (events.Drop renderer name) (answers.Good ∷ [])
-        (drop_refusal s h (is_live s.limits.page h) (parts_of parts) told table stands.between renderer name
+        (drop_refusal s h (is_live (page_limit s) h) (parts_of parts) told table stands.between renderer name
         ∙ drop_none renderer name parts.renderers due) (inl refl);
-    stands = subst (λ (b : Book). Between s (heard h (events.Drop renderer name) answers.Good) (is_live s.limits.page h)
+    stands = subst (λ (b : Book). Between s (heard h (events.Drop renderer name) answers.Good) (is_live (page_limit s) h)
         (counted (parts_of (record parts { registry = b; renderers = renderers }))) told table) (sym is)
-        (subst (λ (rows : List (Option RowSaid)). Between s (heard h (events.Drop renderer name) answers.Good) (is_live s.limits.page h)
+        (subst (λ (rows : List (Option RowSaid)). Between s (heard h (events.Drop renderer name) answers.Good) (is_live (page_limit s) h)
         (counted (record (parts_of parts) { book = changed parts.registry name held_less; renderers = renderers; rows = rows })) told table)
         (sym (rows_still parts.registry name parts.rows))
-        (lines_stand.dropping s h (is_live s.limits.page h) (parts_of parts) told table unmarked stands.between renderer name renderers changes));
+        (lines_stand.dropping s h (is_live (page_limit s) h) (parts_of parts) told table unmarked stands.between renderer name renderers changes));
   }
 
   pub heard_count : IsHeard s h events.Count (how_many (parts_of parts) ∷ []) (scene parts told table)
@@ -132,8 +132,8 @@ module _ (s : Session) (groups : List Group) (parts : Parts) (told : Option (Lis
       → IsHeard s h (events.Stat renderer name) (answers.Told name entry.size entry.kind entry.status ∷ []) (scene parts told table)
   heard_stat renderer name entry due at = record {
     is_own = own_accepted s h (events.Stat renderer name) (answers.Told name entry.size entry.kind entry.status ∷ [])
-        (stat_refusal s h (is_live s.limits.page h) (parts_of parts) told table stands.between renderer name ∙ due)
-        (stat_accepted s h (is_live s.limits.page h) (parts_of parts) told table stands.between name entry at renderer);
-    stands = lines_stand.telling renderer name entry.size entry.kind entry.status s h (is_live s.limits.page h) (parts_of parts) told table unmarked
+        (stat_refusal s h (is_live (page_limit s) h) (parts_of parts) told table stands.between renderer name ∙ due)
+        (stat_accepted s h (is_live (page_limit s) h) (parts_of parts) told table stands.between name entry at renderer);
+    stands = lines_stand.telling renderer name entry.size entry.kind entry.status s h (is_live (page_limit s) h) (parts_of parts) told table unmarked
         stands.between;
   }

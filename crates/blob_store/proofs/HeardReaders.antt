@@ -28,7 +28,7 @@ use Rattle.blob_model.specs.Own.{opened_answer, IsAccepted}
 use Rattle.blob_model.specs.Readers.{OpenReader as ReaderSaid}
 use Rattle.blob_model.specs.Refusals.{refusal}
 use Rattle.blob_model.specs.Renderers.{origin_of}
-use Rattle.blob_model.specs.Session.{Session}
+use Rattle.blob_model.specs.Session.{Session, page_limit}
 use Rattle.store_laws.specs.LineLaws.{counted, handle_refusal, AreUnmarked}
 use Rattle.store_laws.specs.OpeningLaws.{opening_refusal, reader_on, ReaderComes}
 use Rattle.store_laws.specs.Stands.{stood, Between, Stands}
@@ -55,7 +55,7 @@ module _ (s : Session) (groups : List Group) (parts : Parts) (told : Option (Lis
   h = history_from start groups
 
   unmarked : AreUnmarked parts.registry.entries
-  unmarked = none_marked s groups (is_live s.limits.page h) (parts_of parts) told table legal stands.between
+  unmarked = none_marked s groups (is_live (page_limit s) h) (parts_of parts) told table legal stands.between
 
   -- whatever asked for the reader
   module _ (event : Event) (asked : Asked) (entry : Entry) (at : entry_of parts.registry asked.blob ≡ Some entry) where
@@ -65,10 +65,10 @@ module _ (s : Session) (groups : List Group) (parts : Parts) (told : Option (Lis
     abbrev said : Option Refusal
     said = opening_refusal asked.number entry asked.off asked.len (map reader_of parts.readers)
 
-    heard_opening : refusal s h event ≡ said → IsAccepted s h event (opened ∷ []) → stood s.limits.page h event (opened ∷ []) ≡ is_live s.limits.page h
+    heard_opening : refusal s h event ≡ said → IsAccepted s h event (opened ∷ []) → stood (page_limit s) h event (opened ∷ []) ≡ is_live (page_limit s) h
         → ((readers : List (ℕ × ReaderSaid)) → open_at asked.number.0 (map reader_of parts.readers) ≡ None
         → ReaderComes asked.number.0 (reader_on asked.owner asked.number asked.blob entry asked.off asked.len) (map reader_of parts.readers) readers
-        → Between s (heard h event opened) (is_live s.limits.page h)
+        → Between s (heard h event opened) (is_live (page_limit s) h)
         (counted (record (parts_of parts) { book = changed parts.registry asked.blob held_more; readers = readers })) told table)
         → (answer : Answer) (new : Parts) → Opening asked answer parts new → IsHeard s h event (answer ∷ []) (scene new told table)
     unfolding Opening
@@ -105,9 +105,9 @@ module _ (s : Session) (groups : List Group) (parts : Parts) (told : Option (Lis
     opened_told : opened ≡ opened_answer s h asked.number asked.blob
     opened_told =
         ap (λ (size : ℕ). answers.Opened asked.number size entry.kind)
-        (size_told s h (is_live s.limits.page h) (parts_of parts) told table stands.between asked.blob entry at)
-        ∙ ap (λ (kind : List ℕ). answers.Opened asked.number (size_in (builds s.limits.page h) asked.blob) kind)
-        (kind_told s h (is_live s.limits.page h) (parts_of parts) told table stands.between asked.blob entry at)
+        (size_told s h (is_live (page_limit s) h) (parts_of parts) told table stands.between asked.blob entry at)
+        ∙ ap (λ (kind : List ℕ). answers.Opened asked.number (size_in (builds (page_limit s) h) asked.blob) kind)
+        (kind_told s h (is_live (page_limit s) h) (parts_of parts) told table stands.between asked.blob entry at)
 
   pub heard_read : (renderer : RendererId) (reader : ReaderId) (name off : ℕ) (len : Option ℕ) (entry : Entry)
       → handle_refusal renderer name parts.renderers ≡ None → entry_of parts.registry name ≡ Some entry → (answer : Answer) (new : Parts)
@@ -116,10 +116,10 @@ module _ (s : Session) (groups : List Group) (parts : Parts) (told : Option (Lis
   heard_read renderer reader name off len entry due at answer new opening =
       let asked : Asked = record { owner = renderer; number = reader; blob = name; off = off; len = len } in
       heard_opening (events.Read renderer reader name off len) asked entry at
-      (read_refusal s h (is_live s.limits.page h) (parts_of parts) told table stands.between renderer reader name off len entry due at)
+      (read_refusal s h (is_live (page_limit s) h) (parts_of parts) told table stands.between renderer reader name off len entry due at)
       (inl (ap (λ (one : Answer). one ∷ []) (opened_told (events.Read renderer reader name off len) asked entry at))) refl
       (λ readers free comes.
-      openings_stand.reading s h (is_live s.limits.page h) (parts_of parts) told table unmarked stands.between renderer reader name off len entry readers
+      openings_stand.reading s h (is_live (page_limit s) h) (parts_of parts) told table unmarked stands.between renderer reader name off len entry readers
       at free comes) answer new opening
 
   -- a renderer that can't use its handle
@@ -128,7 +128,7 @@ module _ (s : Session) (groups : List Group) (parts : Parts) (told : Option (Lis
       → IsHeard s h (events.Read renderer reader name off len) (answers.Refused why ∷ []) (scene parts told table)
   heard_unhandled renderer reader name off len why due =
       heard_refused s groups parts told table legal stands (events.Read renderer reader name off len) why
-      (read_unhandled s h (is_live s.limits.page h) (parts_of parts) told table stands.between renderer reader name off len why due)
+      (read_unhandled s h (is_live (page_limit s) h) (parts_of parts) told table stands.between renderer reader name off len why due)
 
   module _ (renderer : RendererId) (reader : ReaderId) (text : List ℕ) (off : ℕ) (len : Option ℕ) where
     abbrev fetch : Event
@@ -139,7 +139,7 @@ module _ (s : Session) (groups : List Group) (parts : Parts) (told : Option (Lis
         → IsHeard s h fetch (answers.Refused (refusals.NoRenderer renderer) ∷ []) (scene parts told table)
     heard_lifeless none =
         heard_refused s groups parts told table legal stands fetch (refusals.NoRenderer renderer)
-        (fetch_lifeless s h (is_live s.limits.page h) (parts_of parts) told table stands.between renderer reader text off len (refusals.NoRenderer renderer)
+        (fetch_lifeless s h (is_live (page_limit s) h) (parts_of parts) told table stands.between renderer reader text off len (refusals.NoRenderer renderer)
         (by (living_of renderer.0 parts.renderers) none))
       where
         by : (held : Option Living) → option_map (λ (one : Living). one.origin) held ≡ None
@@ -160,12 +160,12 @@ module _ (s : Session) (groups : List Group) (parts : Parts) (told : Option (Lis
       led : (found : Option ℕ) → led_to origin text parts.urls ≡ found → led_to (origin_of h renderer.0) text parts.urls ≡ found
       led found is =
           subst (λ (one : List ℕ). led_to one text parts.urls ≡ found)
-          (origin_known s h (is_live s.limits.page h) (parts_of parts) told table stands.between renderer.0 origin lives) is
+          (origin_known s h (is_live (page_limit s) h) (parts_of parts) told table stands.between renderer.0 origin lives) is
 
       pub heard_nowhere : led_to origin text parts.urls ≡ None → IsHeard s h fetch (answers.Refused refusals.NoUrl ∷ []) (scene parts told table)
       heard_nowhere none =
           heard_refused s groups parts told table legal stands fetch refusals.NoUrl
-          (fetch_nowhere s h (is_live s.limits.page h) (parts_of parts) told table stands.between renderer reader text off len (keys_differ s groups legal).0
+          (fetch_nowhere s h (is_live (page_limit s) h) (parts_of parts) told table stands.between renderer reader text off len (keys_differ s groups legal).0
           alive (led None none))
 
       pub heard_fetch : (name : ℕ) (entry : Entry) → led_to origin text parts.urls ≡ Some name → entry_of parts.registry name ≡ Some entry
@@ -175,13 +175,13 @@ module _ (s : Session) (groups : List Group) (parts : Parts) (told : Option (Lis
       heard_fetch name entry leads at answer new opening =
           let asked : Asked = record { owner = renderer; number = reader; blob = name; off = off; len = len } in
           let apart = (keys_differ s groups legal).0 in
-          let here = blob_led s h (is_live s.limits.page h) (parts_of parts) told table stands.between renderer reader text off len apart name
+          let here = blob_led s h (is_live (page_limit s) h) (parts_of parts) told table stands.between renderer reader text off len apart name
           (led (Some name) leads) in
           heard_opening fetch asked entry at
-          (fetch_refusal s h (is_live s.limits.page h) (parts_of parts) told table stands.between renderer reader text off len apart alive name entry
+          (fetch_refusal s h (is_live (page_limit s) h) (parts_of parts) told table stands.between renderer reader text off len apart alive name entry
           (led (Some name) leads) at)
           (inl (ap (λ (one : Answer). one ∷ []) (opened_told fetch asked entry at
           ∙ ap (λ (n : ℕ). opened_answer s h reader n) (sym here)))) refl
           (λ readers free comes.
-          openings_stand.fetching s h (is_live s.limits.page h) (parts_of parts) told table unmarked stands.between apart renderer reader text name off len
+          openings_stand.fetching s h (is_live (page_limit s) h) (parts_of parts) told table unmarked stands.between apart renderer reader text name off len
           entry readers (led (Some name) leads) at free comes) answer new opening

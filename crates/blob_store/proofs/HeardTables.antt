@@ -32,7 +32,7 @@ use Rattle.blob_model.specs.Entries.{is_url_of}
 use Rattle.blob_model.specs.Live.{is_live}
 use Rattle.blob_model.specs.Readers.{OpenReader as ReaderSaid}
 use Rattle.blob_model.specs.Renderers.{origin_of}
-use Rattle.blob_model.specs.Session.{Session}
+use Rattle.blob_model.specs.Session.{Session, page_limit}
 use Rattle.store_laws.specs.LineLaws.{counted, handle_refusal, AreUnmarked}
 use Rattle.store_laws.specs.Roots.{rootless, AreRerooted}
 use Rattle.store_laws.specs.Rows.{Row as RowSaid}
@@ -135,7 +135,7 @@ module _ (s : Session) (groups : List Group) (parts : Parts) (told : Option (Lis
   h = history_from start groups
 
   unmarked : AreUnmarked parts.registry.entries
-  unmarked = none_marked s groups (is_live s.limits.page h) (parts_of parts) told table legal stands.between
+  unmarked = none_marked s groups (is_live (page_limit s) h) (parts_of parts) told table legal stands.between
 
   -- with other tables, and entries with other roots
   abbrev moved : Book → Table → List (List ℕ × Url) → List (List ℕ × FileNote) → List (ℕ × OpenReader) → Parts
@@ -144,16 +144,16 @@ module _ (s : Session) (groups : List Group) (parts : Parts) (told : Option (Lis
 
   pub seen : (later : History) (book : Book) (renderers : Table) (urls : List (List ℕ × Url)) (files : List (List ℕ × FileNote))
       (readers : List (ℕ × OpenReader)) → AreRerooted parts.registry book
-      → Between s later (is_live s.limits.page h) (counted (record (parts_of parts) {
+      → Between s later (is_live (page_limit s) h) (counted (record (parts_of parts) {
         book = book;
         renderers = renderers;
         urls = urls;
         files = files;
         readers = map reader_of readers;
       })) told table
-      → Between s later (is_live s.limits.page h) (counted (parts_of (moved book renderers urls files readers))) told table
+      → Between s later (is_live (page_limit s) h) (counted (parts_of (moved book renderers urls files readers))) told table
   seen later book renderers urls files readers same is =
-      subst (λ (rows : List (Option RowSaid)). Between s later (is_live s.limits.page h) (counted (record (parts_of parts) {
+      subst (λ (rows : List (Option RowSaid)). Between s later (is_live (page_limit s) h) (counted (record (parts_of parts) {
         book = book;
         renderers = renderers;
         urls = urls;
@@ -167,13 +167,13 @@ module _ (s : Session) (groups : List Group) (parts : Parts) (told : Option (Lis
       → IsHeard s h (events.Pass renderer to name) (answers.Good ∷ []) (scene (record parts { registry = book; renderers = renderers }) told table)
   heard_pass renderer to name book renderers due is changes = record {
     is_own = own_accepted s h (events.Pass renderer to name) (answers.Good ∷ [])
-        (pass_known s h (is_live s.limits.page h) (parts_of parts) told table stands.between renderer to name
+        (pass_known s h (is_live (page_limit s) h) (parts_of parts) told table stands.between renderer to name
         ∙ ap (option_map (pass_refusal renderer name)) due) (inl refl);
-    stands = subst (λ (one : Book). Between s (heard h (events.Pass renderer to name) answers.Good) (is_live s.limits.page h)
+    stands = subst (λ (one : Book). Between s (heard h (events.Pass renderer to name) answers.Good) (is_live (page_limit s) h)
         (counted (parts_of (record parts { registry = one; renderers = renderers }))) told table) (sym is)
         (seen (heard h (events.Pass renderer to name) answers.Good) (changed parts.registry name held_more) renderers parts.urls parts.files parts.readers
         (changed_rerooted (λ (n : ℕ). n + 1) parts.registry name)
-        (table_lines_stand.passing s h (is_live s.limits.page h) (parts_of parts) told table unmarked stands.between renderer to name renderers changes));
+        (table_lines_stand.passing s h (is_live (page_limit s) h) (parts_of parts) told table unmarked stands.between renderer to name renderers changes));
   }
 
   pub heard_url : (renderer : RendererId) (name : ℕ) (text origin : List ℕ) (book : Book) (urls : List (List ℕ × Url))
@@ -182,16 +182,16 @@ module _ (s : Session) (groups : List Group) (parts : Parts) (told : Option (Lis
       → Comes text (record { blob = name; owner = renderer; origin = origin }) parts.urls urls
       → IsHeard s h (events.Url renderer name text) (answers.Good ∷ []) (scene (record parts { registry = book; urls = urls }) told table)
   heard_url renderer name text origin book urls due at url free few is comes =
-      let known = origin_known s h (is_live s.limits.page h) (parts_of parts) told table stands.between renderer.0 origin at in
+      let known = origin_known s h (is_live (page_limit s) h) (parts_of parts) told table stands.between renderer.0 origin at in
       let form = url_forms_agree.formed (origin_of h renderer.0) text (subst (λ (one : List ℕ). IsBlobUrl one text) known url) in
       record {
         is_own = own_accepted s h (events.Url renderer name text) (answers.Good ∷ [])
-            (url_accepted s h (is_live s.limits.page h) (parts_of parts) told table stands.between renderer name text due form free few) (inl refl);
-        stands = subst (λ (one : Book). Between s (heard h (events.Url renderer name text) answers.Good) (is_live s.limits.page h)
+            (url_accepted s h (is_live (page_limit s) h) (parts_of parts) told table stands.between renderer name text due form free few) (inl refl);
+        stands = subst (λ (one : Book). Between s (heard h (events.Url renderer name text) answers.Good) (is_live (page_limit s) h)
             (counted (parts_of (record parts { registry = one; urls = urls }))) told table) (sym is)
             (seen (heard h (events.Url renderer name text) answers.Good) (changed parts.registry name held_more) parts.renderers urls parts.files
             parts.readers (changed_rerooted (λ (n : ℕ). n + 1) parts.registry name)
-            (table_lines_stand.making_urls s h (is_live s.limits.page h) (parts_of parts) told table unmarked stands.between renderer name text urls free
+            (table_lines_stand.making_urls s h (is_live (page_limit s) h) (parts_of parts) told table unmarked stands.between renderer name text urls free
             (subst (λ (one : List ℕ). Comes text (record { blob = name; owner = renderer; origin = one }) parts.urls urls) known comes)));
       }
 
@@ -200,9 +200,9 @@ module _ (s : Session) (groups : List Group) (parts : Parts) (told : Option (Lis
       → origin_at renderer.0 parts.renderers ≡ Some origin → ¬ (IsBlobUrl origin text)
       → IsHeard s h (events.Url renderer name text) (answers.Refused refusals.UrlForm ∷ []) (scene parts told table)
   heard_formless renderer name text origin due at none =
-      let known = origin_known s h (is_live s.limits.page h) (parts_of parts) told table stands.between renderer.0 origin at in
+      let known = origin_known s h (is_live (page_limit s) h) (parts_of parts) told table stands.between renderer.0 origin at in
       heard_refused s groups parts told table legal stands (events.Url renderer name text) refusals.UrlForm
-      (url_formless s h (is_live s.limits.page h) (parts_of parts) told table stands.between renderer name text due
+      (url_formless s h (is_live (page_limit s) h) (parts_of parts) told table stands.between renderer name text due
       (by known (is_url_of (origin_of h renderer.0) text) refl))
     where
       by : origin ≡ origin_of h renderer.0 → (b : Bool) → is_url_of (origin_of h renderer.0) text ≡ b → b ≡ false
@@ -214,19 +214,19 @@ module _ (s : Session) (groups : List Group) (parts : Parts) (told : Option (Lis
     form : is_url_of (origin_of h renderer.0) text ≡ true
     form =
         url_forms_agree.formed (origin_of h renderer.0) text (subst (λ (one : List ℕ). IsBlobUrl one text)
-        (origin_known s h (is_live s.limits.page h) (parts_of parts) told table stands.between renderer.0 origin at) url)
+        (origin_known s h (is_live (page_limit s) h) (parts_of parts) told table stands.between renderer.0 origin at) url)
 
     pub heard_taken : IsSome (url_at text parts.urls)
         → IsHeard s h (events.Url renderer name text) (answers.Refused refusals.UrlTaken ∷ []) (scene parts told table)
     heard_taken is =
         heard_refused s groups parts told table legal stands (events.Url renderer name text) refusals.UrlTaken
-        (url_taken s h (is_live s.limits.page h) (parts_of parts) told table stands.between renderer name text due form is)
+        (url_taken s h (is_live (page_limit s) h) (parts_of parts) told table stands.between renderer name text due form is)
 
     pub heard_full : url_at text parts.urls ≡ None → 16384 ≤ length parts.urls
         → IsHeard s h (events.Url renderer name text) (answers.Refused (refusals.TooMany counts.Urls) ∷ []) (scene parts told table)
     heard_full free many =
         heard_refused s groups parts told table legal stands (events.Url renderer name text) (refusals.TooMany counts.Urls)
-        (url_full s h (is_live s.limits.page h) (parts_of parts) told table stands.between renderer name text due form free many)
+        (url_full s h (is_live (page_limit s) h) (parts_of parts) told table stands.between renderer name text due form free many)
 
   pub heard_revoke : (renderer : RendererId) (text : List ℕ) (url : Url) (book : Book) (urls : List (List ℕ × Url))
       → renderer_refusal renderer parts.renderers ≡ None → own_url renderer.0 text parts.urls ≡ Some url → book ≡ changed parts.registry url.blob held_less
@@ -235,17 +235,17 @@ module _ (s : Session) (groups : List Group) (parts : Parts) (told : Option (Lis
   heard_revoke renderer text url book urls due own is goes =
       let keys = keys_differ s groups legal in
       let owned =
-      owned_so s h (is_live s.limits.page h) (parts_of parts) told table stands.between keys.0 renderer text
+      owned_so s h (is_live (page_limit s) h) (parts_of parts) told table stands.between keys.0 renderer text
       ∙ ap (λ (held : Option Url). is_some held) own in
       record {
         is_own = own_accepted s h (events.Revoke renderer text) (answers.Revoked ∷ [])
-            (revoke_known s h (is_live s.limits.page h) (parts_of parts) told table stands.between renderer text ∙ due)
+            (revoke_known s h (is_live (page_limit s) h) (parts_of parts) told table stands.between renderer text ∙ due)
             (inl (ap (λ (b : Bool). cond b answers.Revoked answers.Nothing ∷ []) (sym owned)));
-        stands = subst (λ (one : Book). Between s (heard h (events.Revoke renderer text) answers.Revoked) (is_live s.limits.page h)
+        stands = subst (λ (one : Book). Between s (heard h (events.Revoke renderer text) answers.Revoked) (is_live (page_limit s) h)
             (counted (parts_of (record parts { registry = one; urls = urls }))) told table) (sym is)
             (seen (heard h (events.Revoke renderer text) answers.Revoked) (changed parts.registry url.blob held_less) parts.renderers urls parts.files
             parts.readers (changed_rerooted (λ (n : ℕ). n - 1) parts.registry url.blob)
-            (table_lines_stand.revoking s h (is_live s.limits.page h) (parts_of parts) told table unmarked stands.between keys.0 renderer text url urls
+            (table_lines_stand.revoking s h (is_live (page_limit s) h) (parts_of parts) told table unmarked stands.between keys.0 renderer text url urls
             (own_there renderer.0 text parts.urls url own) goes));
       }
 
@@ -253,13 +253,13 @@ module _ (s : Session) (groups : List Group) (parts : Parts) (told : Option (Lis
       → own_url renderer.0 text parts.urls ≡ None → IsHeard s h (events.Revoke renderer text) (answers.Nothing ∷ []) (scene parts told table)
   heard_nothing renderer text due own =
       let owned =
-      owned_so s h (is_live s.limits.page h) (parts_of parts) told table stands.between (keys_differ s groups legal).0 renderer text
+      owned_so s h (is_live (page_limit s) h) (parts_of parts) told table stands.between (keys_differ s groups legal).0 renderer text
       ∙ ap (λ (held : Option Url). is_some held) own in
       record {
         is_own = own_accepted s h (events.Revoke renderer text) (answers.Nothing ∷ [])
-            (revoke_known s h (is_live s.limits.page h) (parts_of parts) told table stands.between renderer text ∙ due)
+            (revoke_known s h (is_live (page_limit s) h) (parts_of parts) told table stands.between renderer text ∙ due)
             (inl (ap (λ (b : Bool). cond b answers.Revoked answers.Nothing ∷ []) (sym owned)));
-        stands = table_lines_stand.revoking_nothing renderer text s h (is_live s.limits.page h) (parts_of parts) told table unmarked stands.between;
+        stands = table_lines_stand.revoking_nothing renderer text s h (is_live (page_limit s) h) (parts_of parts) told table unmarked stands.between;
       }
 
   pub heard_file : (name : List ℕ) (stamp : ℕ) (bytes : List ℕ) (files : List (List ℕ × FileNote))
@@ -268,8 +268,8 @@ module _ (s : Session) (groups : List Group) (parts : Parts) (told : Option (Lis
       → IsHeard s h (events.File name stamp bytes) (answers.Good ∷ []) (scene (record parts { files = files }) told table)
   heard_file name stamp bytes files due notes = record {
     is_own = own_accepted s h (events.File name stamp bytes) (answers.Good ∷ [])
-        (file_known s h (is_live s.limits.page h) (parts_of parts) told table stands.between name stamp bytes ∙ ap (option_map file_refusal) due) (inl refl);
-    stands = table_lines_stand.recording s h (is_live s.limits.page h) (parts_of parts) told table unmarked stands.between name stamp bytes files notes;
+        (file_known s h (is_live (page_limit s) h) (parts_of parts) told table stands.between name stamp bytes ∙ ap (option_map file_refusal) due) (inl refl);
+    stands = table_lines_stand.recording s h (is_live (page_limit s) h) (parts_of parts) told table unmarked stands.between name stamp bytes files notes;
   }
 
   pub heard_gone : (name : List ℕ) (note : FileNote) (files : List (List ℕ × FileNote)) → note_of name parts.files ≡ Some note
@@ -277,8 +277,8 @@ module _ (s : Session) (groups : List Group) (parts : Parts) (told : Option (Lis
       → IsHeard s h (events.Gone name) (answers.Good ∷ []) (scene (record parts { files = files }) told table)
   heard_gone name note files there has notes = record {
     is_own = own_accepted s h (events.Gone name) (answers.Good ∷ [])
-        (gone_accepted s h (is_live s.limits.page h) (parts_of parts) told table stands.between name note there has) (inl refl);
-    stands = table_lines_stand.forgetting s h (is_live s.limits.page h) (parts_of parts) told table unmarked stands.between name note files there notes;
+        (gone_accepted s h (is_live (page_limit s) h) (parts_of parts) told table stands.between name note there has) (inl refl);
+    stands = table_lines_stand.forgetting s h (is_live (page_limit s) h) (parts_of parts) told table unmarked stands.between name note files there notes;
   }
 
   pub heard_cancel : (renderer : RendererId) (number : ReaderId) (reader : OpenReader) (book : Book) (readers : List (ℕ × OpenReader))
@@ -287,12 +287,12 @@ module _ (s : Session) (groups : List Group) (parts : Parts) (told : Option (Lis
       → IsHeard s h (events.Cancel renderer number) (answers.Good ∷ []) (scene (record parts { registry = book; readers = readers }) told table)
   heard_cancel renderer number reader book readers due there is closes = record {
     is_own = own_accepted s h (events.Cancel renderer number) (answers.Good ∷ [])
-        (cancel_known s h (is_live s.limits.page h) (parts_of parts) told table stands.between renderer number ∙ due) (inl refl);
-    stands = subst (λ (one : Book). Between s (heard h (events.Cancel renderer number) answers.Good) (is_live s.limits.page h)
+        (cancel_known s h (is_live (page_limit s) h) (parts_of parts) told table stands.between renderer number ∙ due) (inl refl);
+    stands = subst (λ (one : Book). Between s (heard h (events.Cancel renderer number) answers.Good) (is_live (page_limit s) h)
         (counted (parts_of (record parts { registry = one; readers = readers }))) told table) (sym is)
         (seen (heard h (events.Cancel renderer number) answers.Good) (changed parts.registry reader.blob held_less) parts.renderers parts.urls parts.files
         readers (changed_rerooted (λ (n : ℕ). n - 1) parts.registry reader.blob)
-        (table_lines_stand.closing s h (is_live s.limits.page h) (parts_of parts) told table unmarked stands.between (keys_differ s groups legal).1 renderer
+        (table_lines_stand.closing s h (is_live (page_limit s) h) (parts_of parts) told table unmarked stands.between (keys_differ s groups legal).1 renderer
         number reader.blob (map reader_of readers) (goes_seen number.0 reader parts.readers readers there closes)));
   }
 
@@ -305,8 +305,8 @@ module _ (s : Session) (groups : List Group) (parts : Parts) (told : Option (Lis
       let keys = keys_differ s groups legal in
       record {
         is_own = own_accepted s h (events.Die renderer) (answers.Good ∷ [])
-            (die_known s h (is_live s.limits.page h) (parts_of parts) told table stands.between renderer ∙ due) (inl refl);
+            (die_known s h (is_live (page_limit s) h) (parts_of parts) told table stands.between renderer ∙ due) (inl refl);
         stands = seen (heard h (events.Die renderer) answers.Good) book renderers urls parts.files readers same
-            (table_lines_stand.dying s h (is_live s.limits.page h) (parts_of parts) told table unmarked stands.between keys.0 keys.1 renderer book
+            (table_lines_stand.dying s h (is_live (page_limit s) h) (parts_of parts) told table unmarked stands.between keys.0 keys.1 renderer book
             renderers urls (map reader_of readers) same departs urls_go readers_go);
       }

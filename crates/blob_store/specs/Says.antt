@@ -8,7 +8,7 @@ use Rattle.page_disk.specs.declared.change.Change.{Change}
 use Rattle.blob_model.specs.History.{History, after, has_ended, history_from, start}
 use Rattle.blob_model.specs.Legal.{IsLegalFrom}
 use Rattle.blob_model.specs.Own.{IsOwn}
-use Rattle.blob_model.specs.Session.{Session}
+use Rattle.blob_model.specs.Session.{Session, page_limit}
 use Rattle.store_laws.specs.LineLaws.{counted}
 use Rattle.store_laws.specs.Stands.{Between, Stands, stood}
 use Rattle.blob_store.specs.declared.parts.Parts.{Parts}
@@ -27,7 +27,7 @@ scene parts told table = record { parts = parts; told = told; table = table }
 -- what lived before it
 pub record IsHeard (s : Session) (h : History) (event : Event) (own : List Answer) (now : Scene) : Type 0 where
   pub is_own : IsOwn s h event own
-  pub stands : Between s (after h event own) (stood s.limits.page h event own) (counted (parts_of now.parts)) now.told now.table
+  pub stands : Between s (after h event own) (stood (page_limit s) h event own) (counted (parts_of now.parts)) now.told now.table
 
 -- so for each legal transcript that has not ended and for which the parts stood
 unfoldable pub Says : Event → List Answer → Scene → Scene → Type 0

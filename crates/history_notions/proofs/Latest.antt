@@ -78,7 +78,8 @@ come_among name segment (one ∷ all) = by (one.blob == name) (come_among name s
     by : (b : Bool) → list_any (is_arrival name segment) all ≡ has_come (arrivals_in all name) segment
         → ((b && one.arrival.segment == segment) || list_any (is_arrival name segment) all)
         ≡ has_come
-        (map (λ (each : Brought). each.arrival) (cond b (one ∷ filter (λ (each : Brought). each.blob == name) all) (filter (λ (each : Brought). each.blob == name) all)))
+        (map (λ (each : Brought). each.arrival) (cond b (one ∷ filter (λ (each : Brought). each.blob == name) all)
+        (filter (λ (each : Brought). each.blob == name) all)))
         segment
     by true same = ap (λ (rest : Bool). (one.arrival.segment == segment) || rest) same
     by false same = same

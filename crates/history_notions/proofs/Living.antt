@@ -94,13 +94,15 @@ passed_next page h items back k build places wanted below at is passed =
     split : drop back (reverse items) ≡ build ∷ drop (back + 1) (reverse items)
     split =
         drop_more (reverse items) back build (omega (arith, below, length-reverse items))
-        ∙ ap (λ (one : Build). one ∷ drop (back + 1) (reverse items)) (get_or-reverse items back build below ∙ ap (λ (n : ℕ). get_or items n build) (sym at) ∙ sym is)
+        ∙ ap (λ (one : Build). one ∷ drop (back + 1) (reverse items))
+        (get_or-reverse items back build below ∙ ap (λ (n : ℕ). get_or items n build) (sym at) ∙ sym is)
 
 -- all blobs were looked at
 pub passed_all : (page : ℕ) (h : History) (items : List Build) (back : ℕ) (places wanted : List ℕ) → length items ≤ back
     → IsPassed page h items (drop back (reverse items)) places wanted → items_at items (reverse places) ≡ live_from page h (reverse items) []
 passed_all page h items back places wanted over passed =
-    ap (λ (rest : List Build). live_from page h rest (items_at items (reverse places))) (sym (drop_all back (reverse items) (omega (arith, over, length-reverse items))))
+    ap (λ (rest : List Build). live_from page h rest (items_at items (reverse places)))
+    (sym (drop_all back (reverse items) (omega (arith, over, length-reverse items))))
     ∙ passed.passes
 
 -- a list that is turned in its place

@@ -32,7 +32,8 @@ pieces_grow page builds pieces build same =
     ∙ ap (λ (n : ℕ). pieces_from page 0 builds ++ numbered build.name n (spans_of page build)) count
     ∙ sym (pieces_more page 0 builds build)
 
-pub total_pieces : (page number : ℕ) (builds : List Build) → length (pieces_from page number builds) ≡ sum_by (λ (build : Build). length (spans_of page build)) builds
+pub total_pieces : (page number : ℕ) (builds : List Build) → length (pieces_from page number builds) ≡ sum_by (λ (build : Build). length (spans_of page build))
+    builds
 total_pieces page number [] = refl
 total_pieces page number (first ∷ builds) =
     let counts : Build → ℕ = λ (build : Build). length (spans_of page build) in

@@ -42,12 +42,14 @@ number_more : (test : ℕ → Bool) (k : ℕ) → filter test (range_with_len 0 
 number_more test k = ap (filter test) (range_more k) ∙ filter-append test (range_with_len 0 k) (k ∷ [])
 
 -- the numbers that pass a test, number by number
-pub number_found : (test : ℕ → Bool) (k : ℕ) (found : List ℕ) → test k ≡ true → found ≡ filter test (range_with_len 0 k) → found ++ k ∷ [] ≡ filter test (range_with_len 0 (k + 1))
+pub number_found : (test : ℕ → Bool) (k : ℕ) (found : List ℕ) → test k ≡ true → found ≡ filter test (range_with_len 0 k) → found ++ k ∷ []
+    ≡ filter test (range_with_len 0 (k + 1))
 number_found test k found passes before =
     ap (λ (front : List ℕ). front ++ k ∷ []) before
     ∙ sym (number_more test k ∙ ap (λ (b : Bool). filter test (range_with_len 0 k) ++ cond b (k ∷ []) []) passes)
 
-pub number_not : (test : ℕ → Bool) (k : ℕ) (found : List ℕ) → test k ≡ false → found ≡ filter test (range_with_len 0 k) → found ≡ filter test (range_with_len 0 (k + 1))
+pub number_not : (test : ℕ → Bool) (k : ℕ) (found : List ℕ) → test k ≡ false → found ≡ filter test (range_with_len 0 k) → found
+    ≡ filter test (range_with_len 0 (k + 1))
 number_not test k found fails before =
     before
     ∙ sym (append-nil (filter test (range_with_len 0 k)))

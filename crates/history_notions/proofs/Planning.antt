@@ -32,7 +32,8 @@ pub any_count : {X : Type 0} (test : X → Bool) (xs : List X) → list_any test
 any_count test [] = refl
 any_count {X} test (x ∷ xs) = by (test x) (any_count test xs)
   where
-    by : (b : Bool) → list_any test xs ≡ nat_lt 0 (length (filter test xs)) → (b || list_any test xs) ≡ nat_lt 0 (length (cond b (x ∷ filter test xs) (filter test xs)))
+    by : (b : Bool) → list_any test xs ≡ nat_lt 0 (length (filter test xs)) → (b || list_any test xs)
+        ≡ nat_lt 0 (length (cond b (x ∷ filter test xs) (filter test xs)))
     by true rest = sym (lt-ltb 0 (length (x ∷ filter test xs)) (omega arith))
     by false rest = rest
 
@@ -40,13 +41,15 @@ silent_size : (found : Option ℕ) → unwrap_or found 0 ≡ option_map_or (λ (
 silent_size None = refl
 silent_size (Some size) = refl
 
-size_same : (s : Session) (h : History) (contents : Contents) → Follows s h contents → (slot : ℕ) → unwrap_or (slice_get contents.sizes slot) 0 ≡ slot_size s.outside slot
+size_same : (s : Session) (h : History) (contents : Contents) → Follows s h contents → (slot : ℕ) → unwrap_or (slice_get contents.sizes slot) 0
+    ≡ slot_size s.outside slot
 size_same s h contents follows slot =
     silent_size (slice_get contents.sizes slot)
     ∙ ap (λ (found : Option Slot). option_map_or (λ (object : Slot). object.size) found 0) (sym (slice_get-map silent contents.sizes slot))
     ∙ ap (λ (outside : Outside). slot_size outside slot) follows.outside_is
 
-handle_same : (s : Session) (h : History) (contents : Contents) → Follows s h contents → (renderer b : ℕ) → has_handle_in contents renderer b ≡ has_handle h renderer b
+handle_same : (s : Session) (h : History) (contents : Contents) → Follows s h contents → (renderer b : ℕ) → has_handle_in contents renderer b
+    ≡ has_handle h renderer b
 handle_same s h contents follows renderer b = ap (nat_lt 0) (follows.keeps.counts_are renderer b)
 
 broken_here : (s : Session) (h : History) (contents : Contents) → Follows s h contents → (b : ℕ) → is_broken_in contents.kept.endings b ≡ is_broken h b
@@ -55,20 +58,24 @@ broken_here s h contents follows b = ap (λ (status : Option Status). option_map
 pub invalid_same : (s : Session) (h : History) (contents : Contents) → Follows s h contents → (renderer name : ℕ) (part : Part)
     → is_invalid_in contents renderer name part ≡ is_invalid s h renderer name part
 invalid_same s h contents follows renderer name (BlobRange b off len) =
-    ap (λ (bit : Bool). (b == name) || (bit && not (is_broken_in contents.kept.endings b) && nat_lt (size_in contents.builds b) (off + len))) (handle_same s h contents follows renderer b)
-    ∙ ap (λ (bit : Bool). (b == name) || (has_handle h renderer b && not bit && nat_lt (size_in contents.builds b) (off + len))) (broken_here s h contents follows b)
+    ap (λ (bit : Bool). (b == name) || (bit && not (is_broken_in contents.kept.endings b) && nat_lt (size_in contents.builds b) (off + len)))
+    (handle_same s h contents follows renderer b)
+    ∙ ap (λ (bit : Bool). (b == name) || (has_handle h renderer b && not bit && nat_lt (size_in contents.builds b) (off + len)))
+    (broken_here s h contents follows b)
     ∙ ap (λ (blobs : List Build). (b == name) || (has_handle h renderer b && not (is_broken h b) && nat_lt (size_in blobs b) (off + len))) follows.builds_are
 invalid_same s h contents follows renderer name (HandleRange k off len) = ap (λ (size : ℕ). nat_lt size (off + len)) (size_same s h contents follows k)
 invalid_same s h contents follows renderer name (Embedded bytes) = refl
 invalid_same s h contents follows renderer name (Asked len) = refl
 invalid_same s h contents follows renderer name (FileRange file off len stamp) = refl
 
-pub lost_same : (s : Session) (h : History) (contents : Contents) → Follows s h contents → (renderer b : ℕ) → is_lost_in contents renderer b ≡ is_lost_source h renderer b
+pub lost_same : (s : Session) (h : History) (contents : Contents) → Follows s h contents → (renderer b : ℕ) → is_lost_in contents renderer b
+    ≡ is_lost_source h renderer b
 lost_same s h contents follows renderer b =
     ap (λ (bit : Bool). not bit || is_broken_in contents.kept.endings b) (handle_same s h contents follows renderer b)
     ∙ ap (λ (bit : Bool). not (has_handle h renderer b) || bit) (broken_here s h contents follows b)
 
-pub unrecorded_same : (s : Session) (h : History) (contents : Contents) → Follows s h contents → (part : Part) → is_unrecorded_in contents part ≡ is_unrecorded h part
+pub unrecorded_same : (s : Session) (h : History) (contents : Contents) → Follows s h contents → (part : Part) → is_unrecorded_in contents part
+    ≡ is_unrecorded h part
 unrecorded_same s h contents follows (FileRange name off len stamp) = ap (λ (state : Option FileState). is_none state) (follows.keeps.recorded_is name)
 unrecorded_same s h contents follows (Embedded bytes) = refl
 unrecorded_same s h contents follows (Asked len) = refl

@@ -43,7 +43,8 @@ own_meets piece blob from len = by (blob == piece.blob) refl from len
   where
     by : (b : Bool) → (blob == piece.blob) ≡ b → (from len : ℕ)
         → list_any (owns piece) (map (sent blob) (range_with_len from len)) ≡ ((blob == piece.blob) && do_meet from len piece.from piece.len)
-    by true is from zero = ap (λ (b : Bool). false) is ∙ (empty_meets from piece.from piece.len ∙ ap (λ (b : Bool). b && do_meet from 0 piece.from piece.len) (sym is))
+    by true is from zero = ap (λ (b : Bool). false) is ∙ (empty_meets from piece.from piece.len ∙ ap (λ (b : Bool). b && do_meet from 0 piece.from piece.len)
+        (sym is))
     by true is from (suc len) =
         ap (λ (rest : Bool). (((blob == piece.blob) && nat_le piece.from from) && nat_lt from (piece.from + piece.len)) || rest) (by true is (from + 1) len)
         ∙ ap (λ (b : Bool). ((b && nat_le piece.from from) && nat_lt from (piece.from + piece.len)) || (b && do_meet (from + 1) len piece.from piece.len)) is
@@ -55,11 +56,14 @@ own_meets piece blob from len = by (blob == piece.blob) refl from len
         ∙ ap (λ (b : Bool). ((b && nat_le piece.from from) && nat_lt from (piece.from + piece.len)) || (b && do_meet (from + 1) len piece.from piece.len)) is
         ∙ ap (λ (b : Bool). b && do_meet from (suc len) piece.from piece.len) (sym is)
 
-owns_none : (piece : Piece) (cell : ℕ → Cell) → ((index : ℕ) → owns piece (cell index) ≡ false) → (indices : List ℕ) → list_any (owns piece) (map cell indices) ≡ false
+owns_none : (piece : Piece) (cell : ℕ → Cell) → ((index : ℕ) → owns piece (cell index) ≡ false) → (indices : List ℕ) → list_any (owns piece) (map cell indices)
+    ≡ false
 owns_none piece cell never [] = refl
-owns_none piece cell never (index ∷ indices) = ap (λ (b : Bool). b || list_any (owns piece) (map cell indices)) (never index) ∙ owns_none piece cell never indices
+owns_none piece cell never (index ∷ indices) = ap (λ (b : Bool). b || list_any (owns piece) (map cell indices)) (never index) ∙ owns_none piece cell never
+    indices
 
-owns_of : (piece : Piece) (source : Source) (from len : ℕ) → list_any (owns piece) (map (cell_at source) (range_with_len from len)) ≡ has_of piece source from len
+owns_of : (piece : Piece) (source : Source) (from len : ℕ) → list_any (owns piece) (map (cell_at source) (range_with_len from len)) ≡ has_of piece source from
+    len
 owns_of piece (kinds.Sent blob) from len = own_meets piece blob from len
 owns_of piece (kinds.Filed name stamp) from len = owns_none piece (cell_at (kinds.Filed name stamp)) (λ (index : ℕ). refl) (range_with_len from len)
 owns_of piece (kinds.Lent slot) from len = owns_none piece (cell_at (kinds.Lent slot)) (λ (index : ℕ). refl) (range_with_len from len)
@@ -111,7 +115,8 @@ kept_at {X} test items (place ∷ places) = by (slice_get items place) refl (kep
         ∙ sym (ap (λ (found : Option X). filter test (cons_option found (items_at items places))) is)
       where
         chosen : (b : Bool) → test x ≡ b
-            → items_at items (cond (test x) (place ∷ filter keep places) (filter keep places)) ≡ cond (test x) (x ∷ filter test (items_at items places)) (filter test (items_at items places))
+            → items_at items (cond (test x) (place ∷ filter keep places) (filter keep places)) ≡ cond (test x) (x ∷ filter test (items_at items places))
+            (filter test (items_at items places))
         chosen true passes =
             ap (λ (b : Bool). items_at items (cond b (place ∷ filter keep places) (filter keep places))) passes
             ∙ ap (λ (found : Option X). cons_option found (items_at items (filter keep places))) is

@@ -56,7 +56,8 @@ begun run rest skip left within =
     let size : min left (run.len - skip) ≡ left = omega (arith, few) in
     let none : left - left ≡ 0 = omega arith in
     rw (size, none)
-    (take-append-le left here behind (omega (arith, few, count)) ∙ (take-map-range_with_len cell (run.from + skip) (run.len - skip) left few ∙ sym (append-nil (map cell (range_with_len (run.from + skip) left))))))
+    (take-append-le left here behind (omega (arith, few, count)) ∙
+    (take-map-range_with_len cell (run.from + skip) (run.len - skip) left few ∙ sym (append-nil (map cell (range_with_len (run.from + skip) left))))))
     (cases_lt (run.len - skip) left))
 
 pub cells_push : (runs : List Run) (run : Run) → cells_of_runs (runs ++ run ∷ []) ≡ cells_of_runs runs ++ run_cells run

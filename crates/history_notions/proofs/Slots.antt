@@ -88,8 +88,10 @@ slot_passed count slot taken slots there free =
     ∙ first_no (is_in slot taken) (refusals.HandleTaken slot) (slot_tests count (slot ∷ taken) slots) free
     ∙ ap first_that (tests_alike count (slot ∷ taken) (taken ++ slot ∷ []) slots (λ (number : ℕ). in_front_or_behind number slot taken))
 
-pub slot_missing : (count slot : ℕ) (taken slots : List ℕ) → nat_le count slot ≡ true → first_that (slot_tests count taken (slot ∷ slots)) ≡ Some (refusals.NoSuchHandle slot)
-slot_missing count slot taken slots past = first_yes (nat_le count slot) (refusals.NoSuchHandle slot) ((is_in slot taken, refusals.HandleTaken slot) ∷ slot_tests count (slot ∷ taken) slots) past
+pub slot_missing : (count slot : ℕ) (taken slots : List ℕ) → nat_le count slot ≡ true → first_that (slot_tests count taken (slot ∷ slots))
+    ≡ Some (refusals.NoSuchHandle slot)
+slot_missing count slot taken slots past = first_yes (nat_le count slot) (refusals.NoSuchHandle slot)
+    ((is_in slot taken, refusals.HandleTaken slot) ∷ slot_tests count (slot ∷ taken) slots) past
 
 pub slot_taken : (count slot : ℕ) (taken slots : List ℕ) → nat_le count slot ≡ false → is_in slot taken ≡ true
     → first_that (slot_tests count taken (slot ∷ slots)) ≡ Some (refusals.HandleTaken slot)
@@ -100,11 +102,13 @@ slot_taken count slot taken slots there held =
 tests_same : (s : Session) (taken slots : List ℕ) → slot_tests (length s.outside.slots) taken slots ≡ slot_refusals s taken slots
 tests_same s taken [] = refl
 tests_same s taken (slot ∷ slots) =
-    ap (λ (rest : List (Bool × Refusal)). (nat_le (length s.outside.slots) slot, refusals.NoSuchHandle slot) ∷ (is_in slot taken, refusals.HandleTaken slot) ∷ rest)
+    ap (λ (rest : List (Bool × Refusal)). (nat_le (length s.outside.slots) slot, refusals.NoSuchHandle slot) ∷ (is_in slot taken, refusals.HandleTaken slot)
+    ∷ rest)
     (tests_same s (slot ∷ taken) slots)
 
 pub slots_follow : (s : Session) (h : History) (contents : Contents) → Follows s h contents → (taken slots : List ℕ)
     → slot_tests (length contents.sizes) taken slots ≡ slot_refusals s taken slots
 slots_follow s h contents follows taken slots =
-    let count : length contents.sizes ≡ length s.outside.slots = sym (length-map contents.sizes silent) ∙ ap (λ (outside : Outside). length outside.slots) follows.outside_is in
+    let count : length contents.sizes ≡ length s.outside.slots = sym (length-map contents.sizes silent) ∙ ap (λ (outside : Outside). length outside.slots)
+    follows.outside_is in
     ap (λ (n : ℕ). slot_tests n taken slots) count ∙ tests_same s taken slots

@@ -4,7 +4,7 @@ use Rattle.std.specs.Prelude.{find}
 use Rattle.std.specs.List.{range_with_len}
 use Rattle.std.proofs.lemmas.List.FromFn.{map-range_with_len_more}
 use Rattle.std.proofs.lemmas.List.Sums.{fold-append}
-use Rattle.blob_model.specs.Session.{Session}
+use Rattle.blob_model.specs.Session.{Session, page_limit}
 use Rattle.blob_model.specs.History.{History}
 use Rattle.blob_model.specs.Builds.{Cell, filed, lent, Build, builds}
 use Rattle.blob_model.specs.Readers.{OpenReader, reader_at}
@@ -31,14 +31,16 @@ pub files_use_none : (written : List Page) (blobs : List Build) (list : List Pie
     → use_cells written blobs list before (map (λ (index : ℕ). filed name stamp index) indexes) ≡ before
 files_use_none written blobs list before name stamp [] = refl
 files_use_none written blobs list before name stamp (index ∷ indexes) =
-    ap (λ (found : Option Piece). use_cells written blobs list (fold used before (memory_number written blobs found)) (map (λ (each : ℕ). filed name stamp each) indexes)) (no_piece_filed list name stamp index)
+    ap (λ (found : Option Piece). use_cells written blobs list (fold used before (memory_number written blobs found))
+    (map (λ (each : ℕ). filed name stamp each) indexes)) (no_piece_filed list name stamp index)
     ∙ files_use_none written blobs list before name stamp indexes
 
 pub handles_use_none : (written : List Page) (blobs : List Build) (list : List Piece) (before : List ℕ) (slot : ℕ) (indexes : List ℕ)
     → use_cells written blobs list before (map (λ (index : ℕ). lent slot index) indexes) ≡ before
 handles_use_none written blobs list before slot [] = refl
 handles_use_none written blobs list before slot (index ∷ indexes) =
-    ap (λ (found : Option Piece). use_cells written blobs list (fold used before (memory_number written blobs found)) (map (λ (each : ℕ). lent slot each) indexes)) (no_piece_lent list slot index)
+    ap (λ (found : Option Piece). use_cells written blobs list (fold used before (memory_number written blobs found))
+    (map (λ (each : ℕ). lent slot each) indexes)) (no_piece_lent list slot index)
     ∙ handles_use_none written blobs list before slot indexes
 
 -- one cell more of a source
@@ -51,29 +53,30 @@ index_more written blobs list before source from k =
 
 -- what is read off contents is what the history says
 memory_same : (s : Session) (h : History) (contents : Contents) → Follows s h contents → (found : Option Piece)
-    → memory_number contents.kept.pages contents.builds found ≡ memory_piece s.limits.page h found
+    → memory_number contents.kept.pages contents.builds found ≡ memory_piece (page_limit s) h found
 memory_same s h contents follows None = refl
 memory_same s h contents follows (Some piece) =
     ap (λ (written : List Page). memory_number written contents.builds (Some piece)) follows.keeps.pages_are
     ∙ ap (λ (blobs : List Build). memory_number (pages h) blobs (Some piece)) follows.builds_are
 
 cell_same : (s : Session) (h : History) (contents : Contents) → Follows s h contents → (before : List ℕ) (cell : Cell)
-    → use_cell contents.kept.pages contents.builds contents.pieces before cell ≡ used_by_cell s.limits.page h before cell
+    → use_cell contents.kept.pages contents.builds contents.pieces before cell ≡ used_by_cell (page_limit s) h before cell
 cell_same s h contents follows before cell =
     ap (λ (list : List Piece). use_cell contents.kept.pages contents.builds list before cell) follows.pieces_are
-    ∙ ap (fold used before) (memory_same s h contents follows (piece_with (pieces s.limits.page h) cell))
+    ∙ ap (fold used before) (memory_same s h contents follows (piece_with (pieces (page_limit s) h) cell))
 
 pub cells_same : (s : Session) (h : History) (contents : Contents) → Follows s h contents → (cells : List Cell) (before : List ℕ)
-    → use_cells contents.kept.pages contents.builds contents.pieces before cells ≡ fold (used_by_cell s.limits.page h) before cells
+    → use_cells contents.kept.pages contents.builds contents.pieces before cells ≡ fold (used_by_cell (page_limit s) h) before cells
 cells_same s h contents follows [] before = refl
 cells_same s h contents follows (cell ∷ cells) before =
     ap (λ (after : List ℕ). use_cells contents.kept.pages contents.builds contents.pieces after cells) (cell_same s h contents follows before cell)
-    ∙ cells_same s h contents follows cells (used_by_cell s.limits.page h before cell)
+    ∙ cells_same s h contents follows cells (used_by_cell (page_limit s) h before cell)
 
 -- the chunk of an open reader
-pub chunk_uses : (s : Session) (h : History) (contents : Contents) (reader : OpenReader) (number : ℕ) (before : List ℕ) (cells : List Cell) → Follows s h contents
-    → Some reader ≡ reader_at s.limits.page h number → cells ≡ chunk s.limits h reader
-    → use_cells contents.kept.pages contents.builds contents.pieces before cells ≡ used_by_chunk s.limits h (reader_at s.limits.page h number) before
+pub chunk_uses : (s : Session) (h : History) (contents : Contents) (reader : OpenReader) (number : ℕ) (before : List ℕ) (cells : List Cell)
+    → Follows s h contents
+    → Some reader ≡ reader_at (page_limit s) h number → cells ≡ chunk s.limits h reader
+    → use_cells contents.kept.pages contents.builds contents.pieces before cells ≡ used_by_chunk s.limits h (reader_at (page_limit s) h number) before
 chunk_uses s h contents reader number before cells follows at are =
     ap (use_cells contents.kept.pages contents.builds contents.pieces before) are
     ∙ cells_same s h contents follows (chunk s.limits h reader) before

@@ -1,6 +1,6 @@
 -- When contents agree with a history. Own.
 use Rattle.std.specs.Prelude.{◌≡◌}
-use Rattle.blob_model.specs.Session.{Session}
+use Rattle.blob_model.specs.Session.{Session, page_limit}
 use Rattle.blob_model.specs.History.{History}
 use Rattle.blob_model.specs.Builds.{builds}
 use Rattle.blob_model.specs.Pieces.{pieces}
@@ -15,6 +15,6 @@ pub record Follows (s : Session) (h : History) (contents : Contents) : Type 0 wh
   pub limits_are : contents.limits ≡ s.limits
   pub version_is : contents.version ≡ s.version
   pub outside_is : outside_of contents.sizes ≡ s.outside
-  pub builds_are : contents.builds ≡ builds s.limits.page h
-  pub pieces_are : contents.pieces ≡ pieces s.limits.page h
-  pub readers_are : contents.readers.items ≡ readers s.limits.page h
+  pub builds_are : contents.builds ≡ builds (page_limit s) h
+  pub pieces_are : contents.pieces ≡ pieces (page_limit s) h
+  pub readers_are : contents.readers.items ≡ readers (page_limit s) h

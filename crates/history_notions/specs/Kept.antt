@@ -72,7 +72,8 @@ last_stamp_in notes name = option_and_then (λ (note : Note). option_map (λ (st
 
 -- the bytes that the file had at this stamp
 abbrev pub content_in : List Note → List ℕ → ℕ → Option (List ℕ)
-content_in notes name stamp = option_and_then (λ (note : Note). option_map (λ (state : FileState). state.bytes) note.state) (find (is_at_stamp name stamp) (reverse notes))
+content_in notes name stamp = option_and_then (λ (note : Note). option_map (λ (state : FileState). state.bytes) note.state)
+    (find (is_at_stamp name stamp) (reverse notes))
 
 -- a segment that came, with its blob
 pub record Brought : Type 0 where

@@ -13,7 +13,8 @@ use Rattle.blob_model.specs.Refusals.{is_in, too_many_blobs, many_segments, many
 -- of several slots the first to which a refusal applies names it
 abbrev pub slot_tests : ℕ → List ℕ → List ℕ → List (Bool × Refusal)
 slot_tests count taken [] = []
-slot_tests count taken (slot ∷ slots) = (nat_le count slot, refusals.NoSuchHandle slot) ∷ (is_in slot taken, refusals.HandleTaken slot) ∷ slot_tests count (slot ∷ taken) slots
+slot_tests count taken (slot ∷ slots) = (nat_le count slot, refusals.NoSuchHandle slot) ∷ (is_in slot taken, refusals.HandleTaken slot)
+    ∷ slot_tests count (slot ∷ taken) slots
 
 -- the slots that these blobs claim
 abbrev pub claimed_in : List Build → List ℕ

@@ -1,7 +1,7 @@
 //! The refusals of the lines that build.
 ghost use Rattle.std.specs.Prelude.{◌≡◌, ℕ, ◌+◌, ◌++◌, List, length, nat_lt, sum_by, IfOk};
 ghost use Rattle.session_script.specs.declared.event.Event.TheVariants as events;
-ghost use Rattle.blob_model.specs.Session.{Session};
+ghost use Rattle.blob_model.specs.Session.{Session, page_limit};
 ghost use Rattle.blob_model.specs.History.{History};
 ghost use Rattle.transport_plan.specs.Spans.{piece_count};
 ghost use Rattle.blob_model.specs.Parts.{claims, own_lengths};
@@ -132,7 +132,7 @@ impl Contents {
     fn has_many_pieces(&self, parts: &[Part]) -> Result<bool, NoMemory>
         ensures { IfOk result (λ many. (s : Session) (h : History) → Follows s h self.now
             → many ≡ nat_lt 65536
-            (piece_total s h + piece_count s.limits.page (own_lengths parts.now))) }
+            (piece_total s h + piece_count (page_limit s) (own_lengths parts.now))) }
     {
         let more = piece_count(self.alloc, self.limits.page, parts)?;
         let total = add(self.piece_total() as u128, more)?;
@@ -142,7 +142,7 @@ impl Contents {
     // The weights of the parts.
     fn parts_weight(&self, parts: &[Part]) -> u128
         ensures { (s : Session) (h : History) → Follows s h self.now
-            → result ≡ parts_weight s.limits.page (builds s.limits.page h) parts.now }
+            → result ≡ parts_weight (page_limit s) (builds (page_limit s) h) parts.now }
     {
         parts_weight(self.limits.page, self.builds.as_slice(), parts)
     }
@@ -151,7 +151,7 @@ impl Contents {
     fn has_many_views(&self, parts: &[Part]) -> Result<bool, NoMemory>
         ensures { IfOk result (λ many. (s : Session) (h : History) → Follows s h self.now
             → many ≡ nat_lt 4194304 (weight_total s h
-            + parts_weight s.limits.page (builds s.limits.page h) parts.now)) }
+            + parts_weight (page_limit s) (builds (page_limit s) h) parts.now)) }
     {
         let more = self.parts_weight(parts);
         let before = self.weight_total()?;
@@ -225,7 +225,7 @@ impl Contents {
         end: Option<i64>,
     ) -> Result<Parts, NoMemory>
         ensures { IfOk result (λ parts. (s : Session) (h : History) → Follows s h self.now
-            → parts ≡ slice_parts (builds s.limits.page h) source start end) }
+            → parts ≡ slice_parts (builds (page_limit s) h) source start end) }
     {
         let blobs = self.builds.as_slice();
         let parts = slice_parts(self.alloc, blobs, source, start, end)?;

@@ -3,7 +3,7 @@ ghost use Rattle.std.specs.Prelude.{◌≡◌, ℕ, ◌+◌, ◌-◌, ◌<◌, �
 ghost use Rattle.std.specs.List.{list_any};
 ghost use Rattle.transport_plan.specs.Plan.{file_plan, shared_plan, plan_of, has_file_room, fits_inline, own_bytes};
 ghost use Rattle.transport_plan.specs.Spans.{piece_count};
-ghost use Rattle.blob_model.specs.Session.{Session};
+ghost use Rattle.blob_model.specs.Session.{Session, page_limit};
 ghost use Rattle.blob_model.specs.History.{History};
 ghost use Rattle.blob_model.specs.Parts.{own_lengths, parts_length, sources};
 ghost use Rattle.blob_model.specs.Waits.{waits};
@@ -214,7 +214,7 @@ impl Contents {
     /// Whether a blob waits.
     pub fn has_waiting(&self) -> bool
         ensures { (s : Session) (h : History) → Follows s h self.now
-            → result ≡ nat_lt 0 (length (waits s.limits.page h)) }
+            → result ≡ nat_lt 0 (length (waits (page_limit s) h)) }
     {
         let blobs = self.builds.as_slice();
         is_waited(&self.kept.endings, &self.kept.granted, blobs)

@@ -2,7 +2,7 @@
 ghost use Rattle.std.specs.Prelude.{◌≡◌, ℕ, ◌||◌, OnOk};
 ghost use Rattle.session_script.specs.declared.event.Event.{Event};
 ghost use Rattle.answer_text.specs.declared.refusal.Refusal.{Refusal};
-ghost use Rattle.blob_model.specs.Session.{Session};
+ghost use Rattle.blob_model.specs.Session.{Session, page_limit};
 ghost use Rattle.blob_model.specs.Legal.{session};
 ghost use Rattle.blob_model.specs.History.{History, start, heard, refused, said};
 ghost use Rattle.blob_model.specs.Builds.{builds_after};
@@ -105,7 +105,7 @@ impl Contents {
     /// Whether a renderer holds the blob, a URL names it or a reader reads it.
     pub fn is_rooted(&self, name: BlobName) -> bool
         ensures { (s : Session) (h : History) → Follows s h self.now
-            → result ≡ is_rooted s.limits.page h name }
+            → result ≡ is_rooted (page_limit s) h name }
     {
         self.kept.is_held(name) || self.kept.is_named(name) || is_read(&self.readers, name)
     }

@@ -4,7 +4,7 @@ ghost use Rattle.std.specs.List.{range_with_len};
 ghost use Rattle.std.specs.Option.{option_copied};
 ghost use Rattle.session_script.specs.declared.event.Event.{Event};
 ghost use Rattle.answer_text.specs.declared.refusal.Refusal.{Refusal};
-ghost use Rattle.blob_model.specs.Session.{Session};
+ghost use Rattle.blob_model.specs.Session.{Session, page_limit};
 ghost use Rattle.blob_model.specs.History.{History, start, heard, refused, said};
 ghost use Rattle.blob_model.specs.Legal.{session};
 ghost use Rattle.blob_model.specs.Builds.{sent};
@@ -183,7 +183,7 @@ impl Contents {
     fn use_chunk(&self, number: u32, uses: &mut Vec<u32>) -> Result<(), NoMemory>
         ensures { OnOk result ((s : Session) (h : History) → Follows s h self.now
             → uses.new.items ≡ used_by_chunk s.limits h
-            (reader_at s.limits.page h number) uses.old.items) }
+            (reader_at (page_limit s) h number) uses.old.items) }
     {
         let Some(reader) = self.reader(number) else {
             return Ok(());

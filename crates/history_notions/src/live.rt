@@ -2,7 +2,7 @@
 ghost use Rattle.std.specs.Prelude.{◌≡◌, ◌<◌, ℕ, ◌==◌, ◌++◌, length, IfOk, IfSome, OnOk};
 ghost use Rattle.std.specs.List.{list_any};
 ghost use Rattle.std.specs.Prelude.{slice_get};
-ghost use Rattle.blob_model.specs.Session.{Session};
+ghost use Rattle.blob_model.specs.Session.{Session, page_limit};
 ghost use Rattle.blob_model.specs.History.{History};
 ghost use Rattle.blob_model.specs.Parts.{sources};
 ghost use Rattle.blob_model.specs.Live.{live};
@@ -43,8 +43,8 @@ impl Contents {
         wanted: &mut ItemList<BlobName>,
     ) -> Result<(), NoMemory>
         ensures { OnOk result ((s : Session) (h : History) → Follows s h self.now
-            → (places.new ≡ places_after s.limits.page h build.now place wanted.old places.old)
-            × (wanted.new ≡ wanted_after s.limits.page h build.now wanted.old)) }
+            → (places.new ≡ places_after (page_limit s) h build.now place wanted.old places.old)
+            × (wanted.new ≡ wanted_after (page_limit s) h build.now wanted.old)) }
     {
         if !self.is_rooted(build.name) && !is_among(wanted.as_slice(), build.name) {
             return Ok(());
@@ -59,7 +59,7 @@ impl Contents {
     /// The places of the live blobs, in order of build.
     pub fn live(&self) -> Result<ItemList<usize>, NoMemory>
         ensures { IfOk result (λ places. (s : Session) (h : History) → Follows s h self.now
-            → items_at self.now.builds places ≡ live s.limits.page h) }
+            → items_at self.now.builds places ≡ live (page_limit s) h) }
     {
         let builds = self.builds.as_slice();
         let mut places = ItemList::new(self.alloc);

@@ -2,7 +2,7 @@
 ghost use Rattle.std.specs.Prelude.{◌≡◌, ◌==◌, ◌&&◌, find, not, is_some};
 ghost use Rattle.std.specs.List.{list_any};
 ghost use Rattle.std.specs.Option.{option_copied};
-ghost use Rattle.blob_model.specs.Session.{Session};
+ghost use Rattle.blob_model.specs.Session.{Session, page_limit};
 ghost use Rattle.blob_model.specs.History.{History};
 ghost use Rattle.blob_model.specs.Builds.{builds, build_in, size_in};
 ghost use Rattle.blob_model.specs.Readers.{reader_at};
@@ -167,7 +167,7 @@ impl Contents {
     /// The blob of this name.
     pub fn build(&self, name: BlobName) -> Option<&Build>
         ensures { (s : Session) (h : History) → Follows s h self.now
-            → option_copied result ≡ build_in (builds s.limits.page h) name }
+            → option_copied result ≡ build_in (builds (page_limit s) h) name }
     {
         build_in(self.builds.as_slice(), name)
     }
@@ -175,7 +175,7 @@ impl Contents {
     /// Whether a blob of this name was built.
     pub fn is_built(&self, name: BlobName) -> bool
         ensures { (s : Session) (h : History) → Follows s h self.now
-            → result ≡ is_some (build_in (builds s.limits.page h) name) }
+            → result ≡ is_some (build_in (builds (page_limit s) h) name) }
     {
         self.build(name).is_some()
     }
@@ -183,7 +183,7 @@ impl Contents {
     /// The size of the blob of this name.
     pub fn size_in(&self, name: BlobName) -> u128
         ensures { (s : Session) (h : History) → Follows s h self.now
-            → result ≡ size_in (builds s.limits.page h) name }
+            → result ≡ size_in (builds (page_limit s) h) name }
     {
         size_in(self.builds.as_slice(), name)
     }
@@ -191,7 +191,7 @@ impl Contents {
     /// The open reader of this number.
     pub fn reader(&self, number: u32) -> Option<&OpenReader>
         ensures { (s : Session) (h : History) → Follows s h self.now
-            → option_copied result ≡ reader_at s.limits.page h number }
+            → option_copied result ≡ reader_at (page_limit s) h number }
     {
         reader_at(&self.readers, number)
     }
@@ -199,7 +199,7 @@ impl Contents {
     /// Whether a reader of this number is open.
     pub fn is_open(&self, number: u32) -> bool
         ensures { (s : Session) (h : History) → Follows s h self.now
-            → result ≡ is_some (reader_at s.limits.page h number) }
+            → result ≡ is_some (reader_at (page_limit s) h number) }
     {
         self.reader(number).is_some()
     }

@@ -1,7 +1,7 @@
 //! Which pieces are reached.
 ghost use Rattle.std.specs.Prelude.{◌≡◌, ℕ, ◌+◌, ◌<◌, ◌≤◌, ◌^◌, filter, map, IfOk};
 ghost use Rattle.std.specs.List.{list_any};
-ghost use Rattle.blob_model.specs.Session.{Session};
+ghost use Rattle.blob_model.specs.Session.{Session, page_limit};
 ghost use Rattle.blob_model.specs.History.{History};
 ghost use Rattle.blob_model.specs.Reached.{live_cells, reached};
 ghost use Rattle.history_notions.specs.Follows.{Follows};
@@ -130,7 +130,7 @@ impl Contents {
     pub fn live_cells(&self) -> Result<ItemList<usize>, NoMemory>
         ensures { IfOk result (λ places. (s : Session) (h : History) → Follows s h self.now
             → map (λ build. build.cells) (items_at self.now.builds places)
-            ≡ live_cells s.limits.page h) }
+            ≡ live_cells (page_limit s) h) }
     {
         let places = self.live()?;
         let builds = self.builds.as_slice();
@@ -142,7 +142,7 @@ impl Contents {
     /// The pieces that are reached.
     pub fn reached(&self) -> Result<ItemList<Piece>, NoMemory>
         ensures { IfOk result (λ pieces. (s : Session) (h : History) → Follows s h self.now
-            → pieces ≡ reached s.limits.page h) }
+            → pieces ≡ reached (page_limit s) h) }
     {
         let places = self.live_cells()?;
         let granted = &self.kept.granted;

@@ -1,6 +1,6 @@
 //! What a store holds after a line: memory and disk charged by what is reached.
 ghost use Rattle.std.specs.Prelude.{◌≡◌, filter, length, sum_by, IfOk};
-ghost use Rattle.blob_model.specs.Session.{Session};
+ghost use Rattle.blob_model.specs.Session.{Session, page_limit};
 ghost use Rattle.blob_model.specs.History.{History};
 ghost use Rattle.blob_model.specs.Builds.{build_in, builds};
 ghost use Rattle.blob_model.specs.Pages.{unlisted_place, is_memory, is_reserved, is_page, page_size};
@@ -202,7 +202,7 @@ impl Contents {
     /// Of these pieces those in memory.
     pub fn in_memory(&self, list: &[Piece]) -> Result<ItemList<Piece>, NoMemory>
         ensures { IfOk result (λ found. (s : Session) (h : History) → Follows s h self.now
-            → found ≡ in_memory_of h (builds s.limits.page h) list.now) }
+            → found ≡ in_memory_of h (builds (page_limit s) h) list.now) }
     {
         let pages = self.kept.pages.as_slice();
         let found = memory_pieces(self.alloc, pages, self.builds.as_slice(), list)?;
@@ -212,7 +212,7 @@ impl Contents {
     /// Those that are reserved on the disk.
     pub fn reserved(&self, list: &[Piece]) -> Result<ItemList<Piece>, NoMemory>
         ensures { IfOk result (λ found. (s : Session) (h : History) → Follows s h self.now
-            → found ≡ reserved_of h (builds s.limits.page h) list.now) }
+            → found ≡ reserved_of h (builds (page_limit s) h) list.now) }
     {
         let pages = self.kept.pages.as_slice();
         let found = reserved_pieces(self.alloc, pages, self.builds.as_slice(), list)?;
@@ -222,7 +222,7 @@ impl Contents {
     /// Those in one page file.
     pub fn in_page(&self, page: &Page, list: &[Piece]) -> Result<ItemList<Piece>, NoMemory>
         ensures { IfOk result (λ found. (s : Session) (h : History) → Follows s h self.now
-            → found ≡ in_page_of h (builds s.limits.page h) page.now list.now) }
+            → found ≡ in_page_of h (builds (page_limit s) h) page.now list.now) }
     {
         let pages = self.kept.pages.as_slice();
         let found = page_pieces(self.alloc, pages, self.builds.as_slice(), page.number, list)?;
@@ -233,7 +233,7 @@ impl Contents {
     pub fn files(&self, list: &[Piece]) -> Result<ItemList<usize>, NoMemory>
         ensures { IfOk result (λ places. (s : Session) (h : History) → Follows s h self.now
             → items_at self.now.kept.pages places
-            ≡ files_of h (builds s.limits.page h) list.now) }
+            ≡ files_of h (builds (page_limit s) h) list.now) }
     {
         let pages = self.kept.pages.as_slice();
         let places = held_files(self.alloc, pages, self.builds.as_slice(), list)?;
@@ -243,7 +243,7 @@ impl Contents {
     /// The bytes of those of these pieces that are in memory.
     pub fn memory(&self, list: &[Piece]) -> Result<u128, NoMemory>
         ensures { IfOk result (λ bytes. (s : Session) (h : History) → Follows s h self.now
-            → bytes ≡ memory_of h (builds s.limits.page h) list.now) }
+            → bytes ≡ memory_of h (builds (page_limit s) h) list.now) }
     {
         let found = self.in_memory(list)?;
         Ok(bytes_of(found.as_slice()))
@@ -266,7 +266,7 @@ impl Contents {
     // How many page files hold one of these pieces.
     fn file_count(&self, list: &[Piece]) -> Result<usize, NoMemory>
         ensures { IfOk result (λ count. (s : Session) (h : History) → Follows s h self.now
-            → count ≡ length (files_of h (builds s.limits.page h) list.now)) }
+            → count ≡ length (files_of h (builds (page_limit s) h) list.now)) }
     {
         let pages = self.kept.pages.as_slice();
         let count = held_count(self.alloc, pages, self.builds.as_slice(), list)?;
@@ -276,8 +276,8 @@ impl Contents {
     // The bytes of the page files that hold one of these pieces.
     fn file_bytes(&self, list: &[Piece]) -> Result<u128, NoMemory>
         ensures { IfOk result (λ bytes. (s : Session) (h : History) → Follows s h self.now
-            → bytes ≡ sum_by (page_size (pieces s.limits.page h))
-            (files_of h (builds s.limits.page h) list.now)) }
+            → bytes ≡ sum_by (page_size (pieces (page_limit s) h))
+            (files_of h (builds (page_limit s) h) list.now)) }
     {
         let pages = self.kept.pages.as_slice();
         let blobs = self.builds.as_slice();
@@ -289,7 +289,7 @@ impl Contents {
     // The bytes of those of these pieces that the job in flight still has.
     fn job_bytes(&self, list: &[Piece]) -> Result<u128, NoMemory>
         ensures { IfOk result (λ bytes. (s : Session) (h : History) → Follows s h self.now
-            → bytes ≡ sum_by (length_in (pieces s.limits.page h)) (job_left_in h list.now)) }
+            → bytes ≡ sum_by (length_in (pieces (page_limit s) h)) (job_left_in h list.now)) }
     {
         let left = self.job_left(list)?;
         Ok(lengths_in(self.pieces.as_slice(), left.as_slice()))
@@ -298,7 +298,7 @@ impl Contents {
     // The bytes of those of these pieces that are reserved.
     fn reserved_bytes(&self, list: &[Piece]) -> Result<u128, NoMemory>
         ensures { IfOk result (λ bytes. (s : Session) (h : History) → Follows s h self.now
-            → bytes ≡ bytes_of (reserved_of h (builds s.limits.page h) list.now)) }
+            → bytes ≡ bytes_of (reserved_of h (builds (page_limit s) h) list.now)) }
     {
         let found = self.reserved(list)?;
         Ok(bytes_of(found.as_slice()))
@@ -308,7 +308,7 @@ impl Contents {
     /// ones, and of those that the job in flight still has.
     pub fn disk(&self, list: &[Piece]) -> Result<u128, NoMemory>
         ensures { IfOk result (λ bytes. (s : Session) (h : History) → Follows s h self.now
-            → bytes ≡ disk_of h (builds s.limits.page h) (pieces s.limits.page h) list.now) }
+            → bytes ≡ disk_of h (builds (page_limit s) h) (pieces (page_limit s) h) list.now) }
     {
         let held = self.file_bytes(list)?;
         let reserved = self.reserved_bytes(list)?;
@@ -321,7 +321,7 @@ impl Contents {
     /// The four numbers behind a group, where the reached pieces are these.
     fn tally_of(&self, list: &[Piece]) -> Result<Tally, NoMemory>
         ensures { IfOk result (λ counted. (s : Session) (h : History) → Follows s h self.now
-            → counted ≡ tally_of h (builds s.limits.page h) (pieces s.limits.page h) list.now) }
+            → counted ≡ tally_of h (builds (page_limit s) h) (pieces (page_limit s) h) list.now) }
     {
         let pieces = few(list.len())?;
         let memory = self.memory(list)?;
@@ -341,7 +341,7 @@ impl Contents {
     /// The four numbers behind a group.
     pub fn tally(&self) -> Result<Tally, NoMemory>
         ensures { IfOk result (λ counted. (s : Session) (h : History) → Follows s h self.now
-            → counted ≡ tally s.limits.page h) }
+            → counted ≡ tally (page_limit s) h) }
     {
         let list = self.reached()?;
         let counted = self.tally_of(list.as_slice())?;

@@ -1,6 +1,6 @@
 //! Who waits for room in memory, and which blobs are complete.
 ghost use Rattle.std.specs.Prelude.{◌≡◌, ℕ, filter, IfOk};
-ghost use Rattle.blob_model.specs.Session.{Session};
+ghost use Rattle.blob_model.specs.Session.{Session, page_limit};
 ghost use Rattle.blob_model.specs.History.{History};
 ghost use Rattle.blob_model.specs.Waits.{is_shared, waits};
 ghost use Rattle.history_notions.specs.Follows.{Follows};
@@ -49,7 +49,7 @@ impl Contents {
     /// The places of the blobs that wait, in order of build.
     pub fn waits(&self) -> Result<ItemList<usize>, NoMemory>
         ensures { IfOk result (λ places. (s : Session) (h : History) → Follows s h self.now
-            → items_at self.now.builds places ≡ waits s.limits.page h) }
+            → items_at self.now.builds places ≡ waits (page_limit s) h) }
     {
         let endings = &self.kept.endings;
         let granted = &self.kept.granted;

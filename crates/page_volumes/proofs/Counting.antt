@@ -59,7 +59,8 @@ pub total_retired : (files : List Filed) (slots : List Slot) → total (writer_r
 total_retired files slots =
     (elim (is_one_of_several slots) as (λ r. total (if r then settled_at files (writer_of slots) (changed_at retired (writer_of slots) slots) else slots)
     ≡ total slots) [
-      | true ↦ total_let_go files (Some (writer_of slots)) (changed_at retired (writer_of slots) slots) ∙ same_total retired (λ slot. refl) (writer_of slots) slots
+      | true ↦ total_let_go files (Some (writer_of slots)) (changed_at retired (writer_of slots) slots) ∙ same_total retired (λ slot. refl) (writer_of slots)
+          slots
       | false ↦ refl
     ])
 

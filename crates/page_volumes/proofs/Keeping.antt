@@ -183,7 +183,8 @@ placed_put page slots files so = record {
         ≡ (not slot.is_retired || has_files j (files ++ record { page = page; home = Some (writer_of slots) } ∷ []))) [
           | true ↦ λ at. so ∙ free _ _ slot.is_retired (at_writer j slot is (eqb-true j (writer_of slots) at))
           | false ↦ λ at. so ∙ ap (λ r. not slot.is_retired || r)
-              (sym (has_more j files (record { page = page; home = Some (writer_of slots) }) ∙ ap (λ r. has_files j files || r) at ∙ or_none (has_files j files)))
+              (sym (has_more j files (record { page = page; home = Some (writer_of slots) }) ∙ ap (λ r. has_files j files || r) at ∙ or_none
+              (has_files j files)))
         ]) refl
 
 -- a writer is retired and dropped where it is due

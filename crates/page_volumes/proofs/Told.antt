@@ -85,7 +85,8 @@ pub no_file : (changes : List Change) (page : ℕ) (files : List PageFile) → l
 no_file changes page [] new so = refl
 no_file changes page (file ∷ files) new so =
     (elim (page == file.page) as (λ r. (page == file.page) ≡ r → (if r then Some file.bytes else file_of page files) ≡ None) [
-      | true ↦ λ is. let written = (both (list_any (writes file.page) changes) (list_all (λ (file : PageFile). list_any (writes file.page) changes) files) so).0 in
+      | true ↦ λ is. let written = (both (list_any (writes file.page) changes) (list_all (λ (file : PageFile). list_any (writes file.page) changes) files) so).0
+          in
           let none = subst (λ one. list_any (writes one) changes ≡ false) (eqb-true page file.page is) new in
           let no : true ≡ false = sym written ∙ none in absurd (cc no)
       | false ↦ λ is. no_file changes page files new (both _ _ so).1

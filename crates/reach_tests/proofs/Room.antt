@@ -20,7 +20,8 @@ one_room name entry fits = record {
   weighed = by;
 }
   where
-    by : (number : ℕ) → IfSome (entry_at (Some entry ∷ []) number) (λ (one : Entry). length (held_views one) + cut_weight (name ∷ []) (1 ∷ []) one.recipe ≤ slice_index (1 ∷ []) number)
+    by : (number : ℕ) → IfSome (entry_at (Some entry ∷ []) number)
+        (λ (one : Entry). length (held_views one) + cut_weight (name ∷ []) (1 ∷ []) one.recipe ≤ slice_index (1 ∷ []) number)
     by zero = fits
     by (suc n) = tt
 

@@ -95,7 +95,8 @@ pub bare_changed : (book : Book) (name : ℕ) (change : Entry → Entry) → ((e
 bare_changed book name change same bare slot = in_changed book name change same slot ∙ bare slot
 
 -- each slot counts what it counted
-pub counted_changed : (book : Book) (name : ℕ) (change : Entry → Entry) (shares : List (Option Share)) → ((entry : Entry) → held_views (change entry) ≡ held_views entry)
+pub counted_changed : (book : Book) (name : ℕ) (change : Entry → Entry) (shares : List (Option Share))
+    → ((entry : Entry) → held_views (change entry) ≡ held_views entry)
     → AreCounted book.entries shares → AreCounted (changed book name change).entries shares
 counted_changed book name change shares same counted slot some =
     let is = in_changed book name change same slot in

@@ -34,7 +34,7 @@ use Rattle.blob_model.specs.Handles.{count}
 use Rattle.blob_model.specs.History.{History, heard, refused}
 use Rattle.blob_model.specs.Pieces.{Piece, pieces}
 use Rattle.blob_model.specs.Renderers.{Renderer, is_alive, is_dead, is_spawned, origin_of, spawned}
-use Rattle.blob_model.specs.Session.{Session}
+use Rattle.blob_model.specs.Session.{Session, page_limit}
 use Rattle.blob_model.proofs.Lists.{false_true, found_all}
 use Rattle.registry_laws.specs.Agree.{Beside}
 use Rattle.store_laws.specs.LineLaws.{counted, AreOwned, AreUnmarked, LinesStand}
@@ -55,7 +55,7 @@ module _ (s : Session) (h : History) (stands : ℕ → Bool) (book : Book) (shar
   contents_refused event why = record {
     names = contents.names;
     outlines_stand = contents.outlines_stand;
-    marks = unmarked_right s h (refused h event why) (builds s.limits.page h) book.entries contents.marks unmarked;
+    marks = unmarked_right s h (refused h event why) (builds (page_limit s) h) book.entries contents.marks unmarked;
     rows_stand = contents.rows_stand;
     items = contents.items;
     entries = contents.entries;
@@ -70,7 +70,7 @@ module _ (s : Session) (h : History) (stands : ℕ → Bool) (book : Book) (shar
   contents_told renderer name size kind status = record {
     names = contents.names;
     outlines_stand = contents.outlines_stand;
-    marks = unmarked_right s h (heard h (events.Stat renderer name) (answers.Told name size kind status)) (builds s.limits.page h) book.entries
+    marks = unmarked_right s h (heard h (events.Stat renderer name) (answers.Told name size kind status)) (builds (page_limit s) h) book.entries
         contents.marks unmarked;
     rows_stand = contents.rows_stand;
     items = contents.items;
@@ -86,7 +86,7 @@ module _ (s : Session) (h : History) (stands : ℕ → Bool) (book : Book) (shar
   contents_spawned renderer origin = record {
     names = contents.names;
     outlines_stand = contents.outlines_stand;
-    marks = unmarked_right s h (heard h (events.Spawn renderer origin) answers.Good) (builds s.limits.page h) book.entries contents.marks unmarked;
+    marks = unmarked_right s h (heard h (events.Spawn renderer origin) answers.Good) (builds (page_limit s) h) book.entries contents.marks unmarked;
     rows_stand = contents.rows_stand;
     items = contents.items;
     entries = contents.entries;
@@ -101,7 +101,7 @@ module _ (s : Session) (h : History) (stands : ℕ → Bool) (book : Book) (shar
   contents_handed renderer name = record {
     names = contents.names;
     outlines_stand = contents.outlines_stand;
-    marks = unmarked_right s h (heard h (events.Drop renderer name) answers.Good) (builds s.limits.page h) book.entries contents.marks unmarked;
+    marks = unmarked_right s h (heard h (events.Drop renderer name) answers.Good) (builds (page_limit s) h) book.entries contents.marks unmarked;
     rows_stand = contents.rows_stand;
     items = contents.items;
     entries = contents.entries;
@@ -172,12 +172,12 @@ module _ (f : ℕ → ℕ) where
         by (Some number) = record {
           names = contents.names;
           outlines_stand = outlined_still book.entries number ∙ contents.outlines_stand;
-          marks = beside_still (IsMarkedRight s h) (mark_still s h) (builds s.limits.page h) book.entries number contents.marks;
+          marks = beside_still (IsMarkedRight s h) (mark_still s h) (builds (page_limit s) h) book.entries number contents.marks;
           rows_stand = contents.rows_stand;
           items = contents.items;
           entries = record {
-            each = beside_still (EntryStands (builds s.limits.page h) (pieces s.limits.page h) shares (own_pieces s.limits.page h))
-                (entry_still (builds s.limits.page h) (pieces s.limits.page h) shares (own_pieces s.limits.page h)) (builds s.limits.page h) book.entries
+            each = beside_still (EntryStands (builds (page_limit s) h) (pieces (page_limit s) h) shares (own_pieces (page_limit s) h))
+                (entry_still (builds (page_limit s) h) (pieces (page_limit s) h) shares (own_pieces (page_limit s) h)) (builds (page_limit s) h) book.entries
                 number contents.entries.each;
             written = contents.entries.written;
           };

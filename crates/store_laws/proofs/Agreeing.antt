@@ -9,7 +9,7 @@ use Rattle.item_shares.specs.declared.shares.Share.{Share}
 use Rattle.blob_entries.specs.Book.{Book}
 use Rattle.blob_entries.specs.Statuses.{is_pending}
 use Rattle.blob_entries.specs.declared.entry.Entry.{Entry}
-use Rattle.blob_model.specs.Session.{Session}
+use Rattle.blob_model.specs.Session.{Session, page_limit}
 use Rattle.blob_model.specs.History.{History}
 use Rattle.blob_model.specs.Builds.{Build, builds}
 use Rattle.blob_model.specs.Live.{is_rooted}
@@ -54,31 +54,32 @@ module _ (s : Session) (h : History) (stands : ℕ → Bool) (whole : List Build
     (ends : (name : ℕ) → IfSome (ended h name) (λ (status : Status). is_pending status ≡ false)) (covers : Covers s h stands) where
   each_agrees : (list : List Build) (entries : List (Option Entry)) → AllByRecursion (λ (build : Build). is_unfinished h build.name ≡ true
       → stands build.name ≡ true) list
-      → AllByRecursion (λ (build : Build). named build.name (builds s.limits.page h) ≡ true) list → AreOutlined s h stands list entries
-      → Beside (EntryStands whole all shares own) list entries → Beside (IsRootedAs s.limits.page h) list entries → Beside (Agrees s.limits.page h) list entries
+      → AllByRecursion (λ (build : Build). named build.name (builds (page_limit s) h) ≡ true) list → AreOutlined s h stands list entries
+      → Beside (EntryStands whole all shares own) list entries → Beside (IsRootedAs (page_limit s) h) list entries → Beside (Agrees (page_limit s) h) list
+      entries
   each_agrees [] [] begun built e beside rooted = tt
   each_agrees [] (held ∷ entries) begun built e beside rooted = absurd beside
   each_agrees (build ∷ list) [] begun built e beside rooted = absurd beside
   each_agrees (build ∷ list) (held ∷ entries) begun built e beside rooted =
       let outlined : option_map outline held ≡ outline_at s h stands build = cc in (
         by_first s h stands
-            (λ (one : Option Entry). EntryStands whole all shares own build one → IsRootedAs s.limits.page h build one
-            → Agrees s.limits.page h build one) build held outlined none some
+            (λ (one : Option Entry). EntryStands whole all shares own build one → IsRootedAs (page_limit s) h build one
+            → Agrees (page_limit s) h build one) build held outlined none some
             beside.0 rooted.0,
         each_agrees list entries begun.1 built.1 (rest_of s h stands build list held entries e) beside.1 rooted.1,
       )
     where
-      none : stands build.name ≡ false → Unit {0} → Unit {0} → IsGone s.limits.page h build
+      none : stands build.name ≡ false → Unit {0} → Unit {0} → IsGone (page_limit s) h build
       none off fine root =
           record {
             ended = not_so (is_unfinished h build.name) (λ open_still. false_true (sym off ∙ begun.0 open_still));
-            unrooted = not_so (is_rooted s.limits.page h build.name)
-                (λ root. false_true (sym off ∙ covers.living build.name (rooted_live s.limits.page h build.name built.0 root)));
+            unrooted = not_so (is_rooted (page_limit s) h build.name)
+                (λ root. false_true (sym off ∙ covers.living build.name (rooted_live (page_limit s) h build.name built.0 root)));
           }
 
       some : (entry : Entry) → IsTold s h stands (build, entry) → IsEntryFor whole all shares own build entry
-          → nat_lt 0 entry.roots ≡ is_rooted s.limits.page h build.name
-          → IsEntryOf s.limits.page h build entry
+          → nat_lt 0 entry.roots ≡ is_rooted (page_limit s) h build.name
+          → IsEntryOf (page_limit s) h build entry
       some entry tells fine root =
           record {
             status = ap told (ap (λ (o : Outline). o.status) tells.outline_is) ∙ told_now s h build (ends build.name);
@@ -90,11 +91,11 @@ pub agrees : (s : Session) (h : History) (stands : ℕ → Bool) (book : Book) (
     (files : Files) (order : List (ℕ × ℕ))
     → ContentsStand s h stands book shares rows quota files order → Covers s h stands → ((name : ℕ)
     → IfSome (ended h name) (λ (status : Status). is_pending status ≡ false))
-    → Beside (IsRootedAs s.limits.page h) (builds s.limits.page h) book.entries → AgreesWith s.limits.page h book
+    → Beside (IsRootedAs (page_limit s) h) (builds (page_limit s) h) book.entries → AgreesWith (page_limit s) h book
 agrees s h stands book shares rows quota files order contents covers ends rooted =
     record {
       names = contents.names;
-      each = each_agrees s h stands (builds s.limits.page h) (pieces s.limits.page h) shares (own_pieces s.limits.page h) ends covers
-          (builds s.limits.page h) book.entries covers.unfinished
-          (all_numbered (λ (build : Build). build.name) (builds s.limits.page h)) contents.outlines_stand contents.entries.each rooted;
+      each = each_agrees s h stands (builds (page_limit s) h) (pieces (page_limit s) h) shares (own_pieces (page_limit s) h) ends covers
+          (builds (page_limit s) h) book.entries covers.unfinished
+          (all_numbered (λ (build : Build). build.name) (builds (page_limit s) h)) contents.outlines_stand contents.entries.each rooted;
     }

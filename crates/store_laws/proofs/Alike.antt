@@ -18,7 +18,7 @@ use Rattle.blob_model.specs.Parts.{own_bytes}
 use Rattle.blob_model.specs.Pieces.{Piece, pieces}
 use Rattle.blob_model.specs.Readers.{OpenReader}
 use Rattle.blob_model.specs.Refusals.{claimed, is_in, weight_total}
-use Rattle.blob_model.specs.Session.{Session}
+use Rattle.blob_model.specs.Session.{Session, page_limit}
 use Rattle.blob_model.specs.Waits.{waits}
 use Rattle.registry_laws.specs.Agree.{Beside}
 use Rattle.store_laws.specs.Items.{Facts, ItemsStand, holds_slot}
@@ -50,13 +50,13 @@ pub record Notions : Type 0 where
 
 abbrev pub notions : Session → History → Notions
 notions s h = record {
-  builds = builds s.limits.page h;
-  pieces = pieces s.limits.page h;
+  builds = builds (page_limit s) h;
+  pieces = pieces (page_limit s) h;
   status = status_now s h;
   row = row_of s h;
   facts = facts_of s h;
-  own = own_pieces s.limits.page h;
-  waits = waits s.limits.page h;
+  own = own_pieces (page_limit s) h;
+  waits = waits (page_limit s) h;
   pages = page_facts_of h;
   paging = paging h;
   order = order_of s h;
@@ -81,7 +81,7 @@ module _ (s : Session) (h later : History) (same : notions s later ≡ notions s
           status = n.status build;
         }) else None) n.builds) between.contents.outlines_stand;
     marks = over (λ (n : Notions). Beside (IsMarkedRight s later) n.builds parts.book.entries)
-        (unmarked_right s h later (builds s.limits.page h) parts.book.entries between.contents.marks unmarked);
+        (unmarked_right s h later (builds (page_limit s) h) parts.book.entries between.contents.marks unmarked);
     rows_stand = over
         (λ (n : Notions). map (option_map bare) parts.rows ≡ map (λ (build : Build). if stands build.name then Some (n.row build) else None) n.builds)
         between.contents.rows_stand;

@@ -11,7 +11,7 @@ use Rattle.blob_model.specs.Entries.{Entry, entries, resolved}
 use Rattle.blob_model.specs.History.{History, heard, history_from, refused, said, start}
 use Rattle.blob_model.specs.Readers.{advanced, fetched, opened, OpenReader, reader_at, readers}
 use Rattle.blob_model.specs.Refusals.{fetch_refusals, refusal}
-use Rattle.blob_model.specs.Session.{Session}
+use Rattle.blob_model.specs.Session.{Session, page_limit}
 use Rattle.blob_model.proofs.Lists.{false_true}
 use Rattle.blob_model.proofs.kept.NewBlobs.{tests_fail}
 use Rattle.blob_model.proofs.legal.Causes.{IsCaused}
@@ -48,18 +48,18 @@ urls_apart s (said h answer) caused = urls_apart s h caused.1
 
 module _ (s : Session) (h : History) where
   page : ℕ
-  page = s.limits.page
+  page = page_limit s
 
   -- a reader comes under a number that no other has
-  one_more : (owner number name off : ℕ) (len : Option ℕ) → is_some (reader_at s.limits.page h number) ≡ false → AreReadersApart s.limits.page h
-      → AreApartBy same_number (readers s.limits.page h ++ opened s.limits.page h owner number name off len ∷ [])
+  one_more : (owner number name off : ℕ) (len : Option ℕ) → is_some (reader_at (page_limit s) h number) ≡ false → AreReadersApart (page_limit s) h
+      → AreApartBy same_number (readers (page_limit s) h ++ opened (page_limit s) h owner number name off len ∷ [])
   one_more owner number name off len free all =
-      apart_more same_number (readers s.limits.page h) (opened s.limits.page h owner number name off len) all
-      (not_found (λ (reader : OpenReader). reader.number == number) (readers s.limits.page h) free)
+      apart_more same_number (readers (page_limit s) h) (opened (page_limit s) h owner number name off len) all
+      (not_found (λ (reader : OpenReader). reader.number == number) (readers (page_limit s) h) free)
 
-  without : (number : ℕ) → AreReadersApart s.limits.page h
-      → AreApartBy same_number (filter (λ (reader : OpenReader). not (reader.number == number)) (readers s.limits.page h))
-  without number all = apart_filter same_number (λ (reader : OpenReader). not (reader.number == number)) (readers s.limits.page h) all
+  without : (number : ℕ) → AreReadersApart (page_limit s) h
+      → AreApartBy same_number (filter (λ (reader : OpenReader). not (reader.number == number)) (readers (page_limit s) h))
+  without number all = apart_filter same_number (λ (reader : OpenReader). not (reader.number == number)) (readers (page_limit s) h) all
 
   number_still : (number count : ℕ) (reader : OpenReader) → (advanced number count reader).number ≡ reader.number
   number_still number count reader = by (reader.number == number)
@@ -68,32 +68,32 @@ module _ (s : Session) (h : History) where
       by true = refl
       by false = refl
 
-  readers_heard : (event : Event) (answer : Answer) → refusal s h event ≡ None → AreReadersApart s.limits.page h
-      → AreReadersApart s.limits.page (heard h event answer)
+  readers_heard : (event : Event) (answer : Answer) → refusal s h event ≡ None → AreReadersApart (page_limit s) h
+      → AreReadersApart (page_limit s) (heard h event answer)
   readers_heard (events.Read renderer reader b off len) answer passes all =
       one_more renderer.0 reader.0 b off len (tests_fail s h (events.Read renderer reader b off len) passes).1.1.0 all
   readers_heard (events.Fetch renderer reader text off len) answer passes all = by (resolved h renderer.0 text)
       (tests_fail s h (events.Fetch renderer reader text off len) passes).1
     where
       by : (found : Option Entry) → AllByRecursion (λ (case : Bool × Refusal). case.0 ≡ false) (fetch_refusals s h reader found off len)
-          → AreApartBy same_number (readers s.limits.page h ++ fetched s.limits.page h renderer.0 reader.0 found off len)
+          → AreApartBy same_number (readers (page_limit s) h ++ fetched (page_limit s) h renderer.0 reader.0 found off len)
       by None fails = absurd (false_true (sym fails.0))
       by (Some entry) fails = one_more renderer.0 reader.0 entry.blob off len fails.0 all
   readers_heard (events.Step reader) (answers.Given number bytes) passes all =
       apart_map same_number (advanced reader.0 (length bytes)) (λ one other.
       ap (λ (n : ℕ). n == (advanced reader.0 (length bytes) other).number) (number_still reader.0 (length bytes) one)
-      ∙ ap (λ (n : ℕ). one.number == n) (number_still reader.0 (length bytes) other)) (readers s.limits.page h) all
+      ∙ ap (λ (n : ℕ). one.number == n) (number_still reader.0 (length bytes) other)) (readers (page_limit s) h) all
   readers_heard (events.Step reader) (answers.Ended number status) passes all = without reader.0 all
   readers_heard (events.Step reader) (answers.FileChanged number name) passes all = without reader.0 all
   readers_heard (events.Step reader) (answers.PageFault number file) passes all = without reader.0 all
   readers_heard (events.Step reader) (answers.HandleFailed number slot) passes all = without reader.0 all
   readers_heard (events.Cancel renderer reader) answer passes all = without reader.0 all
   readers_heard (events.Die renderer) answer passes all =
-      apart_filter same_number (λ (reader : OpenReader). not (reader.owner == renderer.0)) (readers s.limits.page h) all
+      apart_filter same_number (λ (reader : OpenReader). not (reader.owner == renderer.0)) (readers (page_limit s) h) all
   readers_heard events.Finish answer passes all = tt
   readers_heard event answer passes all = all
 
-pub readers_apart : (s : Session) (h : History) → IsCaused s h → AreReadersApart s.limits.page h
+pub readers_apart : (s : Session) (h : History) → IsCaused s h → AreReadersApart (page_limit s) h
 readers_apart s start caused = tt
 readers_apart s (heard h event answer) caused = readers_heard s h event answer caused.0.passes (readers_apart s h caused.1)
 readers_apart s (refused h event why) caused = readers_apart s h caused.2

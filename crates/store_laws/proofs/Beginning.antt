@@ -4,7 +4,7 @@ use Rattle.data_handles.specs.Table.{Table as HandleTable}
 use Rattle.page_disk.specs.declared.change.Change.{Change}
 use Rattle.blob_model.specs.History.{start}
 use Rattle.blob_model.specs.Live.{is_live}
-use Rattle.blob_model.specs.Session.{Session}
+use Rattle.blob_model.specs.Session.{Session, page_limit}
 use Rattle.store_laws.specs.LineLaws.{counted, new_parts}
 use Rattle.store_laws.specs.Stands.{Between, ContentsStand, Parts, Stands}
 use Rattle.store_laws.specs.Tables.{DiskStands, HandlesStand}
@@ -13,7 +13,7 @@ module _ (s : Session) where
   abbrev new : Parts
   new = counted (new_parts s.limits s.version)
 
-  new_contents : ContentsStand s start (is_live s.limits.page start) new.book new.shares new.rows new.quota new.pages new.recent
+  new_contents : ContentsStand s start (is_live (page_limit s) start) new.book new.shares new.rows new.quota new.pages new.recent
   new_contents = record {
     names = refl;
     outlines_stand = refl;

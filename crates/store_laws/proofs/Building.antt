@@ -23,7 +23,7 @@ use Rattle.blob_model.specs.Order.{named}
 use Rattle.blob_model.specs.Pages.{Page, lists, pages}
 use Rattle.blob_model.specs.Pieces.{pieces, spans_of}
 use Rattle.blob_model.specs.Refusals.{claimed, is_in, piece_total, refusal, weight_total}
-use Rattle.blob_model.specs.Session.{Session}
+use Rattle.blob_model.specs.Session.{Session, page_limit}
 use Rattle.blob_model.specs.Standing.{ended, is_done, is_done_status}
 use Rattle.blob_model.proofs.Lists.{all_members, false_true, for_each, or_first, or_second, sum_more}
 use Rattle.blob_model.proofs.bytes.Arrivals.{done_came}
@@ -51,40 +51,45 @@ use Rattle.store_laws.proofs.PageNumbers.{pages_in_turn}
 -- ---- what is listed is there
 
 module _ (s : Session) (h : History) (caused : IsCaused s h) where
-  is_there : (number : ℕ) → is_listed (pages h) (flying h) number ≡ true → IsSome (piece_in (pieces s.limits.page h) number)
+  is_there : (number : ℕ) → is_listed (pages h) (flying h) number ≡ true → IsSome (piece_in (pieces (page_limit s) h) number)
   is_there number listed = ap is_some (listed_there s h caused number listed).found
 
-  pages_there : (written : List Page) → ((number : ℕ) → list_any (λ (file : Page). lists file number) written ≡ true → IsSome (piece_in (pieces s.limits.page h) number))
-      → AllByRecursion (λ (file : Page). AreThere (pieces s.limits.page h) file.pieces) written
+  pages_there : (written : List Page) → ((number : ℕ) → list_any (λ (file : Page). lists file number) written ≡ true
+      → IsSome (piece_in (pieces (page_limit s) h) number))
+      → AllByRecursion (λ (file : Page). AreThere (pieces (page_limit s) h) file.pieces) written
   pages_there [] there = tt
   pages_there (file ∷ written) there = (
-    for_each (λ (number : ℕ). lists file number ≡ true) (λ (number : ℕ). IsSome (piece_in (pieces s.limits.page h) number)) file.pieces
+    for_each (λ (number : ℕ). lists file number ≡ true) (λ (number : ℕ). IsSome (piece_in (pieces (page_limit s) h) number)) file.pieces
         (λ number is. there number (or_first (lists file number) (list_any (λ (each : Page). lists each number) written) is)) (all_members file.pieces),
     pages_there written (λ number is. there number (or_second (lists file number) (list_any (λ (each : Page). lists each number) written) is)),
   )
 
-  writes_there : (number : ℕ) (list : List (Option (List ℕ))) → AllByRecursion (λ (file : Page). AreThere (pieces s.limits.page h) file.pieces) (numbered_pages number list)
-      → AllByRecursion (λ (write : Option (List ℕ)). IfSome write (AreThere (pieces s.limits.page h))) list
+  writes_there : (number : ℕ) (list : List (Option (List ℕ))) → AllByRecursion (λ (file : Page). AreThere (pieces (page_limit s) h) file.pieces)
+      (numbered_pages number list)
+      → AllByRecursion (λ (write : Option (List ℕ)). IfSome write (AreThere (pieces (page_limit s) h))) list
   writes_there number [] there = tt
   writes_there number (None ∷ list) there = (tt, writes_there (number + 1) list there)
   writes_there number (Some write ∷ list) there = (there.0, writes_there (number + 1) list there.1)
 
-  job_there : (o : Option Job) → in_flight h ≡ o → IfSome o (λ (job : Job). AreThere (pieces s.limits.page h) job.pieces)
+  job_there : (o : Option Job) → in_flight h ≡ o → IfSome o (λ (job : Job). AreThere (pieces (page_limit s) h) job.pieces)
   job_there None at = tt
   job_there (Some job) at =
-      for_each (λ (number : ℕ). list_any (λ (each : ℕ). each == number) job.pieces ≡ true) (λ (number : ℕ). IsSome (piece_in (pieces s.limits.page h) number)) job.pieces
+      for_each (λ (number : ℕ). list_any (λ (each : ℕ). each == number) job.pieces ≡ true) (λ (number : ℕ). IsSome (piece_in (pieces (page_limit s) h) number))
+      job.pieces
       (λ number is. is_there number (or_second (list_any (λ (file : Page). lists file number) (pages h)) (list_any (λ (each : ℕ). each == number) (flying h))
       (subst (λ (o : Option Job). list_any (λ (each : ℕ). each == number) (flying_of o) ≡ true) (sym at) is)))
       (all_members job.pieces)
 
-  are_listed : AreListed s.limits.page h
+  are_listed : AreListed (page_limit s) h
   are_listed =
       let all_pages = pages_there (pages h)
-      (λ number is. is_there number (or_first (list_any (λ (file : Page). lists file number) (pages h)) (list_any (λ (each : ℕ). each == number) (flying h)) is)) in
+      (λ number is. is_there number (or_first (list_any (λ (file : Page). lists file number) (pages h)) (list_any (λ (each : ℕ). each == number) (flying h))
+      is)) in
       record {
         in_pages = all_pages;
         in_writes = writes_there 0 (writes h)
-            (subst (λ (list : List Page). AllByRecursion (λ (file : Page). AreThere (pieces s.limits.page h) file.pieces) list) (pages_in_turn s h caused) all_pages);
+            (subst (λ (list : List Page). AllByRecursion (λ (file : Page). AreThere (pieces (page_limit s) h) file.pieces) list) (pages_in_turn s h caused)
+            all_pages);
         in_job = job_there (in_flight h) refl;
       }
 
@@ -93,7 +98,7 @@ listed_are_there s groups legal = are_listed s (history_from start groups) (caus
 
 -- ---- a line adds its blob
 
-module _ (s : Session) (h : History) (caused : IsCaused s h) (name : ℕ) (fresh : named name (builds s.limits.page h) ≡ false) where
+module _ (s : Session) (h : History) (caused : IsCaused s h) (name : ℕ) (fresh : named name (builds (page_limit s) h) ≡ false) where
   -- a blob that wasn't built isn't done
   not_done : is_done h name ≡ false
   not_done = go (is_done h name) refl
@@ -102,7 +107,7 @@ module _ (s : Session) (h : History) (caused : IsCaused s h) (name : ℕ) (fresh
       go false at = refl
       go true at =
           let there = ap is_some (done_came s h caused name at).found in
-          absurd (false_true (sym fresh ∙ sym (found_named (builds s.limits.page h) name) ∙ there))
+          absurd (false_true (sym fresh ∙ sym (found_named (builds (page_limit s) h) name) ∙ there))
 
   module _ (why : Status) (unlike : is_done_status why ≡ false) where
     broken_undone : option_map_or is_done_status (cond (name == name) (Some why) (ended h name)) false ≡ false
@@ -113,7 +118,7 @@ module _ (s : Session) (h : History) (caused : IsCaused s h) (name : ℕ) (fresh
 
   by_build : (renderer : RendererId) (kind : List ℕ) (parts : List Part) (status : Option Status) → IfSome status (λ (why : Status). is_done_status why ≡ false)
       → Adds s h (heard h (events.Build renderer name kind parts) (build_answer_by s h name parts status))
-      (built s.limits.page (builds s.limits.page h) renderer.0 name kind parts (plan_told (build_answer_by s h name parts status)))
+      (built (page_limit s) (builds (page_limit s) h) renderer.0 name kind parts (plan_told (build_answer_by s h name parts status)))
   by_build renderer kind parts None unlike = record {
     blobs = refl;
     fresh = fresh;
@@ -138,13 +143,13 @@ module _ (s : Session) (h : History) (caused : IsCaused s h) (name : ℕ) (fresh
   }
 
   by_slice : (renderer : RendererId) (source : ℕ) (from to : Option ℤ) (kind : List ℕ) (parts : List Part)
-      → parts ≡ slice_parts (builds s.limits.page h) source from to → (status : Option Status)
+      → parts ≡ slice_parts (builds (page_limit s) h) source from to → (status : Option Status)
       → IfSome status (λ (why : Status). is_done_status why ≡ false)
       → Adds s h (heard h (events.Slice renderer name source from to kind) (build_answer_by s h name parts status))
-      (built s.limits.page (builds s.limits.page h) renderer.0 name kind parts (plan_told (build_answer_by s h name parts status)))
+      (built (page_limit s) (builds (page_limit s) h) renderer.0 name kind parts (plan_told (build_answer_by s h name parts status)))
   by_slice renderer source from to kind parts is None unlike = record {
-    blobs = ap (λ (list : List Part). builds s.limits.page h
-        ++ built s.limits.page (builds s.limits.page h) renderer.0 name kind list (plan_told (build_answer_by s h name parts None)) ∷ []) (sym is);
+    blobs = ap (λ (list : List Part). builds (page_limit s) h
+        ++ built (page_limit s) (builds (page_limit s) h) renderer.0 name kind list (plan_told (build_answer_by s h name parts None)) ∷ []) (sym is);
     fresh = fresh;
     undone = not_done;
     endings = λ other e. refl;
@@ -155,8 +160,8 @@ module _ (s : Session) (h : History) (caused : IsCaused s h) (name : ℕ) (fresh
     uses = refl;
   }
   by_slice renderer source from to kind parts is (Some why) unlike = record {
-    blobs = ap (λ (list : List Part). builds s.limits.page h
-        ++ built s.limits.page (builds s.limits.page h) renderer.0 name kind list (plan_told (build_answer_by s h name parts (Some why))) ∷ []) (sym is);
+    blobs = ap (λ (list : List Part). builds (page_limit s) h
+        ++ built (page_limit s) (builds (page_limit s) h) renderer.0 name kind list (plan_told (build_answer_by s h name parts (Some why))) ∷ []) (sym is);
     fresh = fresh;
     undone = broken_undone why unlike;
     endings = λ other e. broken_other why unlike other e;
@@ -180,11 +185,11 @@ pub builds_add : BuildsAdd
 builds_add = record {
   by_build = λ s groups renderer name kind parts legal passes.
       let h = history_from start groups in
-      let fresh = sym (found_named (builds s.limits.page h) name) ∙ (tests_fail s h (events.Build renderer name kind parts) passes).1.0 in
+      let fresh = sym (found_named (builds (page_limit s) h) name) ∙ (tests_fail s h (events.Build renderer name kind parts) passes).1.0 in
       by_build s h (caused_from s groups legal) name fresh renderer kind parts (line_status s h renderer.0 name parts) (never_done s h renderer.0 name parts);
   by_slice = λ s groups renderer name source from to kind legal passes parts is.
       let h = history_from start groups in
-      let fresh = sym (found_named (builds s.limits.page h) name) ∙ (tests_fail s h (events.Slice renderer name source from to kind) passes).1.0 in
+      let fresh = sym (found_named (builds (page_limit s) h) name) ∙ (tests_fail s h (events.Slice renderer name source from to kind) passes).1.0 in
       by_slice s h (caused_from s groups legal) name fresh renderer source from to kind parts is (line_status s h renderer.0 name parts)
       (never_done s h renderer.0 name parts);
 }
@@ -206,11 +211,11 @@ grown_stands s h stands parts told table unmarked between rest listed later new 
       same_pieces =
           let was = pieces_counted s h in
           let is = pieces_counted s later in
-          let sums : piece_total s later ≡ piece_total s h + length (spans_of s.limits.page new) =
-          ap (sum_by (λ (build : Build). length (spans_of s.limits.page build))) adds.blobs
-          ∙ sum_more (λ (build : Build). length (spans_of s.limits.page build)) (builds s.limits.page h) new in
+          let sums : piece_total s later ≡ piece_total s h + length (spans_of (page_limit s) new) =
+          ap (sum_by (λ (build : Build). length (spans_of (page_limit s) build))) adds.blobs
+          ∙ sum_more (λ (build : Build). length (spans_of (page_limit s) build)) (builds (page_limit s) h) new in
           let before = between.same_pieces in
           omega (arith, was, is, sums, before);
       same_weight = ap (λ (n : ℕ). n + new.weight) between.same_weight
-          ∙ sym (ap (sum_by (λ (build : Build). build.weight)) adds.blobs ∙ sum_more (λ (build : Build). build.weight) (builds s.limits.page h) new);
+          ∙ sym (ap (sum_by (λ (build : Build). build.weight)) adds.blobs ∙ sum_more (λ (build : Build). build.weight) (builds (page_limit s) h) new);
     }

@@ -14,7 +14,7 @@ use Rattle.item_shares.specs.declared.item.Item.TheVariants.{Memory, Paged, Rese
 use Rattle.item_shares.specs.declared.shares.Share.{Share}
 use Rattle.item_shares.specs.Shares.{item_at}
 use Rattle.item_shares.specs.Weights.{held_weight, weights}
-use Rattle.blob_model.specs.Session.{Session}
+use Rattle.blob_model.specs.Session.{Session, page_limit}
 use Rattle.blob_model.specs.History.{History}
 use Rattle.blob_model.specs.Builds.{Build}
 use Rattle.blob_model.specs.Order.{Distinct, named}
@@ -177,47 +177,47 @@ module _ (s : Session) (h : History) (stands : ℕ → Bool) where
 
   -- the first blob's pieces
   first_gathered : (build : Build) (held : Option Row) (number : ℕ) → option_map bare held ≡ row_at s h stands build
-      → row_bytes held ≡ sum_by size (cond (row_gathers held) (numbered build.name number (spans_of s.limits.page build)) [])
+      → row_bytes held ≡ sum_by size (cond (row_gathers held) (numbered build.name number (spans_of (page_limit s) build)) [])
   first_gathered build None number is = refl
   first_gathered build (Some row) number is = go (stands build.name) refl (gathers row.coming) refl
     where
       go : (b : Bool) → stands build.name ≡ b → (c : Bool) → gathers row.coming ≡ c
-          → gathered_bytes row.coming ≡ sum_by size (cond c (numbered build.name number (spans_of s.limits.page build)) [])
+          → gathered_bytes row.coming ≡ sum_by size (cond c (numbered build.name number (spans_of (page_limit s) build)) [])
       go false off c at = let bad : Some (bare row) ≡ None = is ∙ ap (λ (b : Bool). cond b (Some (row_of s h build)) None) off in absurd (cc bad)
       go true on false at = no_room row.coming at
       go true on true at =
           let same : Some (bare row) ≡ Some (row_of s h build) = is ∙ ap (λ (b : Bool). cond b (Some (row_of s h build)) None) on in
           let bares : bare row ≡ row_of s h build = cc in
           let room = gathered_room build row.coming (ap (λ (r : Row). r.coming) bares) at in
-          room.0 ∙ sym (cover_sum (spans_of s.limits.page build) 0 (own_bytes build.parts) (cover_pieces s.limits build room.1.0 room.1.1))
-          ∙ zero-add (sum_by (λ (span : ℕ × ℕ). span.1) (spans_of s.limits.page build))
-          ∙ sym (sum_numbered build.name number (spans_of s.limits.page build))
+          room.0 ∙ sym (cover_sum (spans_of (page_limit s) build) 0 (own_bytes build.parts) (cover_pieces s.limits build room.1.0 room.1.1))
+          ∙ zero-add (sum_by (λ (span : ℕ × ℕ). span.1) (spans_of (page_limit s) build))
+          ∙ sym (sum_numbered build.name number (spans_of (page_limit s) build))
 
   -- the bytes gathered are those of the pieces of the blobs that gather
   pub gathered_held : (number : ℕ) (list : List Build) (rows : List (Option Row)) → Distinct list → AreRowed s h stands list rows
-      → gathered rows ≡ sum_by size (filter (λ (piece : Piece). is_gathered list rows piece.blob) (pieces_from s.limits.page number list))
+      → gathered rows ≡ sum_by size (filter (λ (piece : Piece). is_gathered list rows piece.blob) (pieces_from (page_limit s) number list))
   gathered_held number [] [] distinct are = refl
   gathered_held number [] (held ∷ rows) distinct are = absurd (cc are)
   gathered_held number (build ∷ list) [] distinct are = absurd (cc are)
   gathered_held number (build ∷ list) (held ∷ rows) distinct are =
-      let mine = numbered build.name number (spans_of s.limits.page build) in
-      let others = pieces_from s.limits.page (number + length (spans_of s.limits.page build)) list in
+      let mine = numbered build.name number (spans_of (page_limit s) build) in
+      let others = pieces_from (page_limit s) (number + length (spans_of (page_limit s) build)) list in
       let test = (λ (piece : Piece). is_gathered (build ∷ list) (held ∷ rows) piece.blob) in
       let first_is : option_map bare held ≡ row_at s h stands build = cc in
       let rest_are : AreRowed s h stands list rows = cc in
       let front : filter test mine ≡ cond (row_gathers held) mine [] =
       filter_constant test (row_gathers held) mine
-      (numbered_named (λ (blob : ℕ). is_gathered (build ∷ list) (held ∷ rows) blob ≡ row_gathers held) build.name number (spans_of s.limits.page build)
+      (numbered_named (λ (blob : ℕ). is_gathered (build ∷ list) (held ∷ rows) blob ≡ row_gathers held) build.name number (spans_of (page_limit s) build)
       (ap (λ (b : Bool). cond b (row_gathers held) (is_gathered list rows build.name)) (eq-eqb build.name build.name refl))) in
       let back : filter test others ≡ filter (λ (piece : Piece). is_gathered list rows piece.blob) others =
       filter_alike test (λ (piece : Piece). is_gathered list rows piece.blob) others
       (for_each (λ (piece : Piece). named piece.blob list ≡ true) (λ (piece : Piece). test piece ≡ is_gathered list rows piece.blob) others
       (λ piece there. other piece.blob there)
-      (pieces_named s.limits.page (number + length (spans_of s.limits.page build)) list)) in
+      (pieces_named (page_limit s) (number + length (spans_of (page_limit s) build)) list)) in
       sum_by-cons row_bytes held rows
       ∙ ap (λ (n : ℕ). n + gathered rows) (first_gathered build held number first_is)
       ∙ ap (λ (n : ℕ). sum_by size (cond (row_gathers held) mine []) + n) (gathered_held (number + length
-      (spans_of s.limits.page build)) list rows distinct.1 rest_are)
+      (spans_of (page_limit s) build)) list rows distinct.1 rest_are)
       ∙ sym
       (ap (sum_by size) (filter-append test mine others)
       ∙ sum_by-append size (filter test mine) (filter test others)

@@ -17,7 +17,7 @@ use Rattle.blob_entries.specs.Holdings.{held_views, views_in}
 use Rattle.blob_entries.specs.Statuses.{is_broken, is_pending}
 use Rattle.blob_entries.proofs.Counting.{on_append}
 use Rattle.blob_entries.proofs.Holdings.{in_cons}
-use Rattle.blob_model.specs.Session.{Session}
+use Rattle.blob_model.specs.Session.{Session, page_limit}
 use Rattle.blob_model.specs.History.{History}
 use Rattle.blob_model.specs.Builds.{Build, builds, build_in}
 use Rattle.blob_model.specs.Live.{is_live, live}
@@ -165,25 +165,25 @@ pub record IsResting (s : Session) (h : History) (stands : ℕ → Bool) (whole 
 
 module _ (s : Session) (h : History) (stands : ℕ → Bool) (book : Book) (shares : List (Option Share)) (rows : List (Option Row)) (quota : Queue)
     (files : Files) (order : List (ℕ × ℕ))
-    (contents : ContentsStand s h stands book shares rows quota files order) (exact : AreExact s h stands) (rest : IsAtRest s.limits.page h)
+    (contents : ContentsStand s h stands book shares rows quota files order) (exact : AreExact s h stands) (rest : IsAtRest (page_limit s) h)
     (counted : IsCounted book shares rows) where
   abbrev page : ℕ
-  page = s.limits.page
+  page = page_limit s
 
   abbrev whole : List Build
-  whole = builds s.limits.page h
+  whole = builds (page_limit s) h
 
   abbrev all : List Piece
-  all = pieces s.limits.page h
+  all = pieces (page_limit s) h
 
   abbrev own : ℕ → List ℕ
-  own = own_pieces s.limits.page h
+  own = own_pieces (page_limit s) h
 
   abbrev facts : Facts
   facts = facts_of s h
 
   abbrev pub pairs : List (Build × Entry)
-  pairs = paired (builds s.limits.page h) book.entries
+  pairs = paired (builds (page_limit s) h) book.entries
 
   distinct : Distinct whole
   distinct = ordered_distinct [] whole rest.ordered

@@ -19,7 +19,7 @@ use Rattle.blob_model.specs.Own.{IsOwn}
 use Rattle.blob_model.specs.Order.{Distinct}
 use Rattle.blob_model.specs.Parts.{own_bytes}
 use Rattle.blob_model.specs.Readers.{readers}
-use Rattle.blob_model.specs.Session.{Session}
+use Rattle.blob_model.specs.Session.{Session, page_limit}
 use Rattle.blob_model.specs.Waits.{waits}
 use Rattle.blob_model.proofs.builds.Order.{ordered_distinct}
 use Rattle.blob_model.proofs.live.Names.{live_named}
@@ -42,24 +42,24 @@ standing_paired (build ∷ list) (None ∷ held) = standing_paired list held
 standing_paired (build ∷ list) (Some entry ∷ held) = omega (arith, standing_paired list held)
 
 module _ (s : Session) (h : History) (parts : Parts) (told : Option (List Change)) (table : HandleTable)
-    (between : Between s h (is_live s.limits.page h) parts told table) where
-  standing_live : Distinct (builds s.limits.page h) → length (standing parts.book.names parts.book.entries) ≡ length (live s.limits.page h)
+    (between : Between s h (is_live (page_limit s) h) parts told table) where
+  standing_live : Distinct (builds (page_limit s) h) → length (standing parts.book.names parts.book.entries) ≡ length (live (page_limit s) h)
   standing_live distinct =
       ap (λ (names : List ℕ). length (standing names parts.book.entries)) between.contents.names
-      ∙ standing_paired (builds s.limits.page h) parts.book.entries
-      ∙ sym (length-map (paired (builds s.limits.page h) parts.book.entries) (λ (pair : Build × Entry). pair.0))
+      ∙ standing_paired (builds (page_limit s) h) parts.book.entries
+      ∙ sym (length-map (paired (builds (page_limit s) h) parts.book.entries) (λ (pair : Build × Entry). pair.0))
       ∙ ap (λ (list : List Build). length list)
-      (paired_stand s h (is_live s.limits.page h) (builds s.limits.page h) parts.book.entries between.contents.outlines_stand)
-      ∙ ap (λ (list : List Build). length list) (sym (live_named s.limits.page h distinct))
+      (paired_stand s h (is_live (page_limit s) h) (builds (page_limit s) h) parts.book.entries between.contents.outlines_stand)
+      ∙ ap (λ (list : List Build). length list) (sym (live_named (page_limit s) h distinct))
 
-  many_wait : length parts.quota.waiting ≡ length (waits s.limits.page h)
+  many_wait : length parts.quota.waiting ≡ length (waits (page_limit s) h)
   many_wait =
       ap (λ (list : List (ℕ × ℕ)). length list) between.contents.waiting
-      ∙ length-map (waits s.limits.page h) (λ (build : Build). (build.name, own_bytes build.parts))
+      ∙ length-map (waits (page_limit s) h) (λ (build : Build). (build.name, own_bytes build.parts))
 
-  same_answer : Distinct (builds s.limits.page h)
+  same_answer : Distinct (builds (page_limit s) h)
       → how_many parts
-      ≡ answers.Held (length (live s.limits.page h)) (length (entries h)) (length (readers s.limits.page h)) (length (waits s.limits.page h)) (paging h)
+      ≡ answers.Held (length (live (page_limit s) h)) (length (entries h)) (length (readers (page_limit s) h)) (length (waits (page_limit s) h)) (paging h)
   same_answer distinct =
       let blobs = standing_live distinct in
       let urls = between.tables.urls_stand.many in
@@ -69,14 +69,14 @@ module _ (s : Session) (h : History) (parts : Parts) (told : Option (List Change
       rw (blobs, urls, open_ones, waiting, on) refl
 
   between_counted : AreUnmarked parts.book.entries → (blobs urls read_by waiting : ℕ) (on : Bool)
-      → Between s (heard h events.Count (answers.Held blobs urls read_by waiting on)) (is_live s.limits.page h) (counted parts) told table
+      → Between s (heard h events.Count (answers.Held blobs urls read_by waiting on)) (is_live (page_limit s) h) (counted parts) told table
   between_counted unmarked blobs urls read_by waiting on = record {
     same_limits = between.same_limits;
     same_version = between.same_version;
     contents = record {
       names = between.contents.names;
       outlines_stand = between.contents.outlines_stand;
-      marks = unmarked_right s h (heard h events.Count (answers.Held blobs urls read_by waiting on)) (builds s.limits.page h) parts.book.entries
+      marks = unmarked_right s h (heard h events.Count (answers.Held blobs urls read_by waiting on)) (builds (page_limit s) h) parts.book.entries
           between.contents.marks unmarked;
       rows_stand = between.contents.rows_stand;
       items = between.contents.items;
@@ -102,7 +102,7 @@ module _ (s : Session) (h : History) (parts : Parts) (told : Option (List Change
 count_own : (s : Session) (groups : List Group) (parts : Parts) (told : Option (List Change)) (table : HandleTable) → IsLegalFrom s start groups
     → Stands s (history_from start groups) parts told table → IsOwn s (history_from start groups) events.Count (how_many parts ∷ [])
 count_own s groups parts told table legal stands =
-    let distinct = ordered_distinct [] (builds s.limits.page (history_from start groups)) (rests_when_settled s groups legal).ordered in
+    let distinct = ordered_distinct [] (builds (page_limit s) (history_from start groups)) (rests_when_settled s groups legal).ordered in
     own_accepted s (history_from start groups) events.Count (how_many parts ∷ []) refl
     (inl (ap (λ (answer : Answer). answer ∷ []) (same_answer s (history_from start groups) parts told table stands.between distinct)))
 
@@ -111,6 +111,6 @@ tells_how_many = record {
   is_own = count_own;
   stands = λ s groups parts told table legal stands.
       between_counted s (history_from start groups) parts told table stands.between
-      (none_marked s groups (is_live s.limits.page (history_from start groups)) parts told table legal stands.between)
+      (none_marked s groups (is_live (page_limit s) (history_from start groups)) parts told table legal stands.between)
       (length (standing parts.book.names parts.book.entries)) (length parts.urls) (length parts.readers) (length parts.quota.waiting) parts.pages.paging;
 }

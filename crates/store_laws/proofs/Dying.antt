@@ -20,7 +20,7 @@ use Rattle.blob_model.specs.Handles.{count}
 use Rattle.blob_model.specs.History.{History, heard}
 use Rattle.blob_model.specs.Readers.{OpenReader, readers}
 use Rattle.blob_model.specs.Renderers.{is_alive, is_dead, is_spawned, origin_of, spawned}
-use Rattle.blob_model.specs.Session.{Session}
+use Rattle.blob_model.specs.Session.{Session, page_limit}
 use Rattle.blob_model.proofs.Lists.{false_true, for_each}
 use Rattle.store_laws.specs.Apart.{same_number, same_text, AreApartBy, AreReadersApart, AreUrlsApart}
 use Rattle.store_laws.specs.LineLaws.{counted, AreUnmarked}
@@ -160,7 +160,7 @@ departed_stand h renderer old new stand departs = record {
 -- ---- all parts
 
 pub dying : (s : Session) (h : History) (stands : ℕ → Bool) (parts : Parts) (told : Option (List Change)) (table : HandleTable)
-    → AreUnmarked parts.book.entries → Between s h stands parts told table → AreUrlsApart h → AreReadersApart s.limits.page h
+    → AreUnmarked parts.book.entries → Between s h stands parts told table → AreUrlsApart h → AreReadersApart (page_limit s) h
     → (renderer : RendererId) (book : Book) (renderers : Table) (urls : Urls) (open_readers : Open) → AreRerooted parts.book book
     → Departs renderer.0 parts.renderers renderers → UrlsLeave renderer.0 parts.urls urls → ReadersLeave renderer.0 parts.readers open_readers
     → Between s (heard h (events.Die renderer) answers.Good) stands
@@ -172,5 +172,5 @@ dying s h stands parts told table unmarked between urls_apart readers_apart rend
       renderers = departed_stand h renderer parts.renderers renderers between.tables.renderers departs;
       urls_stand = urls_leave (origin_of h) (entries h) renderer.0 parts.urls urls urls_go between.tables.urls_stand urls_apart;
       files_stand = between.tables.files_stand;
-      readers_stand = readers_leave (readers s.limits.page h) renderer.0 parts.readers open_readers readers_go between.tables.readers_stand readers_apart;
+      readers_stand = readers_leave (readers (page_limit s) h) renderer.0 parts.readers open_readers readers_go between.tables.readers_stand readers_apart;
     }) refl)

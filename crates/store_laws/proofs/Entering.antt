@@ -34,7 +34,7 @@ use Rattle.blob_model.specs.Order.{named}
 use Rattle.blob_model.specs.Own.{pending_status}
 use Rattle.blob_model.specs.Parts.{own_lengths, parts_length, sources}
 use Rattle.blob_model.specs.Pieces.{Piece, numbered, pieces, pieces_from, spans_of}
-use Rattle.blob_model.specs.Session.{Session}
+use Rattle.blob_model.specs.Session.{Session, page_limit}
 use Rattle.blob_model.specs.Standing.{ended, grants_at_once, was_granted}
 use Rattle.blob_model.specs.Transport.{arrivals, has_all, has_come, missing, spans}
 use Rattle.blob_model.specs.Waits.{is_shared}
@@ -100,7 +100,8 @@ firsts_none : (name : ℕ) (list : List Piece) → AllByRecursion (λ (piece : P
     → (more : List Piece) → filter (λ (piece : Piece). piece.blob == name) (list ++ more) ≡ filter (λ (piece : Piece). piece.blob == name) more
 firsts_none name [] none more = refl
 firsts_none name (piece ∷ list) none more =
-    ap (λ (b : Bool). cond {A = List Piece} b (piece ∷ filter (λ (each : Piece). each.blob == name) (list ++ more)) (filter (λ (each : Piece). each.blob == name) (list ++ more))) none.0
+    ap (λ (b : Bool). cond {A = List Piece} b (piece ∷ filter (λ (each : Piece). each.blob == name) (list ++ more))
+    (filter (λ (each : Piece). each.blob == name) (list ++ more))) none.0
     ∙ firsts_none name list none.1 more
 
 all_mine : (name number : ℕ) (spans : List (ℕ × ℕ))
@@ -109,7 +110,9 @@ all_mine : (name number : ℕ) (spans : List (ℕ × ℕ))
 all_mine name number [] = refl
 all_mine name number (span ∷ spans) =
     let piece : Piece = record { number = number; blob = name; from = span.0; len = span.1 } in
-    ap (λ (b : Bool). map (λ (each : Piece). each.number) (cond {A = List Piece} b (piece ∷ filter (λ (each : Piece). each.blob == name) (numbered name (number + 1) spans)) (filter (λ (each : Piece). each.blob == name) (numbered name (number + 1) spans)))) (eq-eqb name name refl)
+    ap (λ (b : Bool). map (λ (each : Piece). each.number) (cond {A = List Piece} b
+    (piece ∷ filter (λ (each : Piece). each.blob == name) (numbered name (number + 1) spans))
+    (filter (λ (each : Piece). each.blob == name) (numbered name (number + 1) spans)))) (eq-eqb name name refl)
     ∙ ap (λ (list : List ℕ). number ∷ list) (all_mine name (number + 1) spans)
 
 -- ---- the steps of own parts alone
@@ -120,31 +123,32 @@ steps_join number (x ∷ xs) ys =
     let same : (number + 1) + length xs ≡ number + length (x ∷ xs) = omega arith in
     ap (λ (list : List Step). Own (piece_no number) x ∷ list) (steps_join (number + 1) xs ys ∙ ap (λ (n : ℕ). own_steps (number + 1) xs ++ own_steps n ys) same)
 
-module _ {Y : Type 0} (f : Step → List Y) (fixed : (view : View) → f (Fixed view) ≡ []) (source : (name off len : ℕ) → f (Source name off len) ≡ []) (page : ℕ) where
-  own_first : (number len : ℕ) (views : List View) (parts : List Part)
-      → flat_map f (recipe_of page (number + length (piece_lengths page len)) views parts)
-      ≡ flat_map f (own_steps (number + length (piece_lengths page len)) (all_lengths page parts))
-      → flat_map f (own_steps number (piece_lengths page len) ++ recipe_of page (number + length (piece_lengths page len)) views parts)
-      ≡ flat_map f (own_steps number (piece_lengths page len ++ all_lengths page parts))
-  own_first number len views parts rest =
-      flat_map-append f (own_steps number (piece_lengths page len)) (recipe_of page (number + length (piece_lengths page len)) views parts)
-      ∙ ap (λ (list : List Y). flat_map f (own_steps number (piece_lengths page len)) ++ list) rest
-      ∙ sym (flat_map-append f (own_steps number (piece_lengths page len)) (own_steps (number + length (piece_lengths page len)) (all_lengths page parts)))
-      ∙ ap (flat_map f) (sym (steps_join number (piece_lengths page len) (all_lengths page parts)))
+module _ {Y : Type 0} (f : Step → List Y) (fixed : (view : View) → f (Fixed view) ≡ []) (source : (name off len : ℕ) → f (Source name off len) ≡ []) (page : ℕ)
+  where
+    own_first : (number len : ℕ) (views : List View) (parts : List Part)
+        → flat_map f (recipe_of page (number + length (piece_lengths page len)) views parts)
+        ≡ flat_map f (own_steps (number + length (piece_lengths page len)) (all_lengths page parts))
+        → flat_map f (own_steps number (piece_lengths page len) ++ recipe_of page (number + length (piece_lengths page len)) views parts)
+        ≡ flat_map f (own_steps number (piece_lengths page len ++ all_lengths page parts))
+    own_first number len views parts rest =
+        flat_map-append f (own_steps number (piece_lengths page len)) (recipe_of page (number + length (piece_lengths page len)) views parts)
+        ∙ ap (λ (list : List Y). flat_map f (own_steps number (piece_lengths page len)) ++ list) rest
+        ∙ sym (flat_map-append f (own_steps number (piece_lengths page len)) (own_steps (number + length (piece_lengths page len)) (all_lengths page parts)))
+        ∙ ap (flat_map f) (sym (steps_join number (piece_lengths page len) (all_lengths page parts)))
 
-  only_own : (number : ℕ) (views : List View) (parts : List Part)
-      → flat_map f (recipe_of page number views parts) ≡ flat_map f (own_steps number (all_lengths page parts))
-  only_own number views [] = refl
-  only_own number views (Embedded bytes ∷ parts) =
-      own_first number (length bytes) views parts (only_own (number + length (piece_lengths page (length bytes))) views parts)
-  only_own number views (Asked len ∷ parts) = own_first number len views parts (only_own (number + length (piece_lengths page len)) views parts)
-  only_own number views (FileRange file off zero stamp ∷ parts) = only_own number views parts
-  only_own number [] (FileRange file off (suc len) stamp ∷ parts) = only_own number [] parts
-  only_own number (view ∷ views) (FileRange file off (suc len) stamp ∷ parts) = λ i. fixed view i ++ only_own number views parts i
-  only_own number views (BlobRange b off len ∷ parts) = λ i. source b off len i ++ only_own number views parts i
-  only_own number views (HandleRange k off zero ∷ parts) = only_own number views parts
-  only_own number [] (HandleRange k off (suc len) ∷ parts) = only_own number [] parts
-  only_own number (view ∷ views) (HandleRange k off (suc len) ∷ parts) = λ i. fixed view i ++ only_own number views parts i
+    only_own : (number : ℕ) (views : List View) (parts : List Part)
+        → flat_map f (recipe_of page number views parts) ≡ flat_map f (own_steps number (all_lengths page parts))
+    only_own number views [] = refl
+    only_own number views (Embedded bytes ∷ parts) =
+        own_first number (length bytes) views parts (only_own (number + length (piece_lengths page (length bytes))) views parts)
+    only_own number views (Asked len ∷ parts) = own_first number len views parts (only_own (number + length (piece_lengths page len)) views parts)
+    only_own number views (FileRange file off zero stamp ∷ parts) = only_own number views parts
+    only_own number [] (FileRange file off (suc len) stamp ∷ parts) = only_own number [] parts
+    only_own number (view ∷ views) (FileRange file off (suc len) stamp ∷ parts) = λ i. fixed view i ++ only_own number views parts i
+    only_own number views (BlobRange b off len ∷ parts) = λ i. source b off len i ++ only_own number views parts i
+    only_own number views (HandleRange k off zero ∷ parts) = only_own number views parts
+    only_own number [] (HandleRange k off (suc len) ∷ parts) = only_own number [] parts
+    only_own number (view ∷ views) (HandleRange k off (suc len) ∷ parts) = λ i. fixed view i ++ only_own number views parts i
 
 none_own : (number : ℕ) (lengths : List ℕ) (rest : List Step) → source_names (own_steps number lengths ++ rest) ≡ source_names rest
 none_own number [] rest = refl
@@ -277,7 +281,8 @@ module _ (all : List Piece) (now : List (Option Share)) where
         own_part_steps number from (length bytes) views parts found_them
         (λ rest. recipe_steps (number + length (piece_lengths page (length bytes))) (from + length bytes) views parts rest ranges)
     recipe_steps number from views (Asked len ∷ parts) found_them ranges =
-        own_part_steps number from len views parts found_them (λ rest. recipe_steps (number + length (piece_lengths page len)) (from + len) views parts rest ranges)
+        own_part_steps number from len views parts found_them (λ rest. recipe_steps (number + length (piece_lengths page len)) (from + len) views parts rest
+        ranges)
     recipe_steps number from views (FileRange file off zero stamp ∷ parts) found_them ranges = recipe_steps number from views parts found_them ranges
     recipe_steps number from [] (FileRange file off (suc len) stamp ∷ parts) found_them ranges = absurd ranges
     recipe_steps number from (view ∷ views) (FileRange file off (suc len) stamp ∷ parts) found_them ranges =
@@ -312,16 +317,18 @@ broken_stands list all now cells statuses.Dereferenced entry broken = absurd (fa
 broken_stands list all now cells why entry broken = tt
 
 first_piece : (s : Session) (h later : History) (new : Build) → Adds s h later new
-    → length (pieces s.limits.page h) ≡ pieces_before s.limits.page (builds s.limits.page later) new.name
+    → length (pieces (page_limit s) h) ≡ pieces_before (page_limit s) (builds (page_limit s) later) new.name
 first_piece s h later new adds =
-    sym (ap (λ (list : List Build). pieces_before s.limits.page list new.name) adds.blobs ∙ before_last s.limits.page 0 (builds s.limits.page h) new adds.fresh)
+    sym (ap (λ (list : List Build). pieces_before (page_limit s) list new.name) adds.blobs ∙ before_last (page_limit s) 0 (builds (page_limit s) h) new
+    adds.fresh)
 
-broken_entered : (s : Session) (h later : History) (owner : RendererId) (name : ℕ) (kind : List ℕ) (parts : List Part) (why : Status) (now : List (Option Share))
-    → Adds s h later (built s.limits.page (builds s.limits.page h) owner.0 name kind parts None) → ended later name ≡ Some why → is_broken why ≡ true
-    → IsEntered s later (built s.limits.page (builds s.limits.page h) owner.0 name kind parts None) now (broken_entry owner kind why)
-    (settled_row None 0 (length (pieces s.limits.page h)) parts)
+broken_entered : (s : Session) (h later : History) (owner : RendererId) (name : ℕ) (kind : List ℕ) (parts : List Part) (why : Status)
+    (now : List (Option Share))
+    → Adds s h later (built (page_limit s) (builds (page_limit s) h) owner.0 name kind parts None) → ended later name ≡ Some why → is_broken why ≡ true
+    → IsEntered s later (built (page_limit s) (builds (page_limit s) h) owner.0 name kind parts None) now (broken_entry owner kind why)
+    (settled_row None 0 (length (pieces (page_limit s) h)) parts)
 broken_entered s h later owner name kind parts why now adds ends broken =
-    let new : Build = built s.limits.page (builds s.limits.page h) owner.0 name kind parts None in
+    let new : Build = built (page_limit s) (builds (page_limit s) h) owner.0 name kind parts None in
     record {
       outline_is = λ i. record {
         owner = owner.0;
@@ -331,7 +338,7 @@ broken_entered s h later owner name kind parts why now adds ends broken =
       };
       unmarked = refl;
       stands = record {
-        stands = broken_stands (builds s.limits.page later) (pieces s.limits.page later) now [] why (broken_entry owner kind why) broken;
+        stands = broken_stands (builds (page_limit s) later) (pieces (page_limit s) later) now [] why (broken_entry owner kind why) broken;
         steps = tt;
         inside = tt;
         owned = λ pending. absurd (never_both why broken pending);
@@ -351,7 +358,7 @@ broken_entered s h later owner name kind parts why now adds ends broken =
 
 module _ (s : Session) (h later : History) (owner : RendererId) (name : ℕ) (kind : List ℕ) (parts : List Part) where
   abbrev as_built : Plan → Build
-  as_built plan = built s.limits.page (builds s.limits.page h) owner.0 name kind parts (Some plan)
+  as_built plan = built (page_limit s) (builds (page_limit s) h) owner.0 name kind parts (Some plan)
 
   ready_status : (plan : Plan) → IsReady plan → ended later name ≡ None → statuses.PendingReferencedBlobs ≡ status_now s later (as_built plan)
   ready_status plans.None ready ends =
@@ -365,33 +372,33 @@ module _ (s : Session) (h later : History) (owner : RendererId) (name : ℕ) (ki
   ready_coming plans.Inline ready ends = sym (ap (λ (o : Option Status). cond (is_none o) settled settled) ends)
   ready_coming plan ready ends = absurd ready
 
-  module _ (plan : Plan) (now : List (Option Share)) (views : List View) (sized : 0 < s.limits.page) (adds : Adds s h later (as_built plan))
-      (known : AllByRecursion (λ (source : ℕ). named source (builds s.limits.page h) ≡ true) (sources parts)) (ranges : AreRanges now views parts) where
+  module _ (plan : Plan) (now : List (Option Share)) (views : List View) (sized : 0 < (page_limit s)) (adds : Adds s h later (as_built plan))
+      (known : AllByRecursion (λ (source : ℕ). named source (builds (page_limit s) h) ≡ true) (sources parts)) (ranges : AreRanges now views parts) where
     abbrev first : ℕ
-    first = length (pieces s.limits.page h)
+    first = length (pieces (page_limit s) h)
 
     abbrev recipe : List Step
-    recipe = recipe_of s.limits.page first views parts
+    recipe = recipe_of (page_limit s) first views parts
 
     abbrev now_all : List Piece
-    now_all = pieces s.limits.page later
+    now_all = pieces (page_limit s) later
 
     abbrev own_spans : List (ℕ × ℕ)
-    own_spans = piece_spans s.limits.page 0 (own_lengths parts)
+    own_spans = piece_spans (page_limit s) 0 (own_lengths parts)
 
-    split : now_all ≡ pieces s.limits.page h ++ numbered name first own_spans
+    split : now_all ≡ pieces (page_limit s) h ++ numbered name first own_spans
     split =
         let same : 0 + first ≡ first = omega arith in
-        ap (pieces_from s.limits.page 0) adds.blobs ∙ pieces_then s.limits.page 0 (builds s.limits.page h) (as_built plan)
-        ∙ ap (λ (n : ℕ). pieces s.limits.page h ++ numbered name n own_spans) same
+        ap (pieces_from (page_limit s) 0) adds.blobs ∙ pieces_then (page_limit s) 0 (builds (page_limit s) h) (as_built plan)
+        ∙ ap (λ (n : ℕ). pieces (page_limit s) h ++ numbered name n own_spans) same
 
     found_own : AreFound now_all (numbered name first own_spans)
     found_own =
-        append_second (λ (piece : Piece). piece_in now_all piece.number ≡ Some piece) (pieces s.limits.page h) (numbered name first own_spans)
-        (subst (λ (list : List Piece). AreFound now_all list) split (all_by_number 0 now_all (pieces_numbered s.limits.page 0 (builds s.limits.page later))))
+        append_second (λ (piece : Piece). piece_in now_all piece.number ≡ Some piece) (pieces (page_limit s) h) (numbered name first own_spans)
+        (subst (λ (list : List Piece). AreFound now_all list) split (all_by_number 0 now_all (pieces_numbered (page_limit s) 0 (builds (page_limit s) later))))
 
-    cells_by : (list : List Step) → AllByRecursion (λ (source : ℕ). named source (builds s.limits.page h) ≡ true) (source_names list)
-        → recipe_cells (builds s.limits.page later) now_all now list ≡ recipe_cells (builds s.limits.page h) now_all now list
+    cells_by : (list : List Step) → AllByRecursion (λ (source : ℕ). named source (builds (page_limit s) h) ≡ true) (source_names list)
+        → recipe_cells (builds (page_limit s) later) now_all now list ≡ recipe_cells (builds (page_limit s) h) now_all now list
     cells_by [] are = refl
     cells_by (Own piece len ∷ list) are = ap (λ (cells : List Cell). own_cells now_all piece.0 len ++ cells) (cells_by list are)
     cells_by (Fixed view ∷ list) are = ap (λ (cells : List Cell). denoted now_all now (view ∷ []) ++ cells) (cells_by list are)
@@ -399,30 +406,32 @@ module _ (s : Session) (h later : History) (owner : RendererId) (name : ℕ) (ki
         λ i. take len (drop off (cells_found s h later (as_built plan) adds source are.0 i)) ++ cells_by list are.1 i
 
     steps_sound : AllByRecursion (IsStep now_all now) recipe
-    steps_sound = recipe_steps now_all now name s.limits.page sized first 0 views parts found_own ranges
+    steps_sound = recipe_steps now_all now name (page_limit s) sized first 0 views parts found_own ranges
 
-    own_numbered : own_numbers recipe ≡ own_pieces s.limits.page later name
+    own_numbered : own_numbers recipe ≡ own_pieces (page_limit s) later name
     own_numbered =
-        only_own own_number (λ view. refl) (λ source off len. refl) s.limits.page first views parts
-        ∙ ap (λ (lengths : List ℕ). own_numbers (own_steps first lengths)) (sym (lengths_all s.limits.page 0 (own_lengths parts)))
+        only_own own_number (λ view. refl) (λ source off len. refl) (page_limit s) first views parts
+        ∙ ap (λ (lengths : List ℕ). own_numbers (own_steps first lengths)) (sym (lengths_all (page_limit s) 0 (own_lengths parts)))
         ∙ numbers_own name first own_spans
         ∙ sym (all_mine name first own_spans)
         ∙ ap (map (λ (piece : Piece). piece.number))
         (sym (ap (λ (list : List Piece). filter (λ (piece : Piece). piece.blob == name) list) split
-        ∙ firsts_none name (pieces s.limits.page h)
-        (for_each (λ (piece : Piece). named piece.blob (builds s.limits.page h) ≡ true) (λ (piece : Piece). (piece.blob == name) ≡ false) (pieces s.limits.page h)
-        (λ piece member. not_same piece.blob name (λ same. false_true (sym adds.fresh ∙ subst (λ (n : ℕ). named n (builds s.limits.page h) ≡ true) same member)))
-        (pieces_named s.limits.page 0 (builds s.limits.page h))) (numbered name first own_spans)))
+        ∙ firsts_none name (pieces (page_limit s) h)
+        (for_each (λ (piece : Piece). named piece.blob (builds (page_limit s) h) ≡ true) (λ (piece : Piece). (piece.blob == name) ≡ false)
+        (pieces (page_limit s) h)
+        (λ piece member. not_same piece.blob name (λ same. false_true
+        (sym adds.fresh ∙ subst (λ (n : ℕ). named n (builds (page_limit s) h) ≡ true) same member)))
+        (pieces_named (page_limit s) 0 (builds (page_limit s) h))) (numbered name first own_spans)))
 
-    recipe_is : recipe_cells (builds s.limits.page later) now_all now recipe ≡ (as_built plan).cells
+    recipe_is : recipe_cells (builds (page_limit s) later) now_all now recipe ≡ (as_built plan).cells
     recipe_is =
-        cells_by recipe (subst (λ (list : List ℕ). AllByRecursion (λ (source : ℕ). named source (builds s.limits.page h) ≡ true) list)
-        (sym (sources_made s.limits.page first views parts)) known)
-        ∙ recipes_stand (builds s.limits.page h) now_all now s.limits.page name first 0 views parts sized found_own ranges
+        cells_by recipe (subst (λ (list : List ℕ). AllByRecursion (λ (source : ℕ). named source (builds (page_limit s) h) ≡ true) list)
+        (sym (sources_made (page_limit s) first views parts)) known)
+        ∙ recipes_stand (builds (page_limit s) h) now_all now (page_limit s) name first 0 views parts sized found_own ranges
 
     ready_entered : (own : List View) → ended later name ≡ None → IsReady plan
-        → AreBrought now (length (pieces s.limits.page h)) (all_lengths s.limits.page parts) own
-        → IsEntered s later (as_built plan) now (ready_entry owner kind parts s.limits.page first views own)
+        → AreBrought now (length (pieces (page_limit s) h)) (all_lengths (page_limit s) parts) own
+        → IsEntered s later (as_built plan) now (ready_entry owner kind parts (page_limit s) first views own)
         (settled_row (Some plan) (as_built plan).weight first parts)
     ready_entered own ends ready brought = record {
       outline_is = λ i. record { owner = owner.0; size = parts_length parts; kind = kept_type kind; status = ready_status plan ready ends i };
@@ -431,16 +440,16 @@ module _ (s : Session) (h later : History) (owner : RendererId) (name : ℕ) (ki
         stands = (
           recipe_is,
           refl,
-          all_brought now_all now first (all_lengths s.limits.page parts) own brought
-              ∙ sym (only_own (own_step_cells now_all) (λ view. refl) (λ source off len. refl) s.limits.page first views parts),
+          all_brought now_all now first (all_lengths (page_limit s) parts) own brought
+              ∙ sym (only_own (own_step_cells now_all) (λ view. refl) (λ source off len. refl) (page_limit s) first views parts),
         );
         steps = steps_sound;
         inside = all_append (IsInside now_all now) (fixed_views recipe ++ own) []
             (all_append (IsInside now_all now) (fixed_views recipe) own (fixed_inside now_all now recipe steps_sound)
             (brought_inside now_all now name first own_spans own
-            (subst (λ (lengths : List ℕ). AreBrought now first lengths own) (sym (lengths_all s.limits.page 0 (own_lengths parts))) brought) found_own)) tt;
+            (subst (λ (lengths : List ℕ). AreBrought now first lengths own) (sym (lengths_all (page_limit s) 0 (own_lengths parts))) brought) found_own)) tt;
         owned = λ pending. own_numbered;
-        sources = λ pending. sources_made s.limits.page first views parts;
+        sources = λ pending. sources_made (page_limit s) first views parts;
       };
       row_is = λ i. record {
         plan = Some plan;
@@ -459,7 +468,7 @@ module _ (s : Session) (h later : History) (owner : RendererId) (name : ℕ) (ki
         (all_append (IsInside now_all now) (fixed_views recipe) [] (fixed_inside now_all now recipe steps_sound) tt) tt
 
     waiting_entered : (n : ℕ) → plan ≡ plans.Shared n → ended later name ≡ None → was_granted later name ≡ false
-        → IsEntered s later (as_built plan) now (pending_entry owner kind parts s.limits.page first views statuses.PendingQuota)
+        → IsEntered s later (as_built plan) now (pending_entry owner kind parts (page_limit s) first views statuses.PendingQuota)
         (coming_row (Some plan) (as_built plan).weight first parts waiting)
     waiting_entered n shared ends ungranted = record {
       outline_is = λ i. record { owner = owner.0; size = parts_length parts; kind = kept_type kind; status = status i };
@@ -469,7 +478,7 @@ module _ (s : Session) (h later : History) (owner : RendererId) (name : ℕ) (ki
         steps = steps_sound;
         inside = fixed_alone;
         owned = λ pending. own_numbered;
-        sources = λ pending. sources_made s.limits.page first views parts;
+        sources = λ pending. sources_made (page_limit s) first views parts;
       };
       row_is = λ i. record {
         plan = Some plan;
@@ -506,8 +515,8 @@ module _ (s : Session) (h later : History) (owner : RendererId) (name : ℕ) (ki
     none_came = map (λ (segment : ℕ). false) (range_with_len 0 (length (spans s.limits (as_built plan))))
 
     writing_entered : (n : ℕ) (slots : List ℕ) → plan ≡ plans.File n → ended later name ≡ None → arrivals later name ≡ []
-        → 0 < length (spans s.limits (as_built plan)) → map (piece_at now) slots ≡ map (λ (number : ℕ). Some number) (own_pieces s.limits.page later name)
-        → IsEntered s later (as_built plan) now (pending_entry owner kind parts s.limits.page first views statuses.PendingTransport)
+        → 0 < length (spans s.limits (as_built plan)) → map (piece_at now) slots ≡ map (λ (number : ℕ). Some number) (own_pieces (page_limit s) later name)
+        → IsEntered s later (as_built plan) now (pending_entry owner kind parts (page_limit s) first views statuses.PendingTransport)
         (coming_row (Some plan) (as_built plan).weight first parts (writing slots none_came))
     writing_entered n slots filed ends quiet some written = record {
       outline_is = λ i. record { owner = owner.0; size = parts_length parts; kind = kept_type kind; status = status i };
@@ -517,7 +526,7 @@ module _ (s : Session) (h later : History) (owner : RendererId) (name : ℕ) (ki
         steps = steps_sound;
         inside = fixed_alone;
         owned = λ pending. own_numbered;
-        sources = λ pending. sources_made s.limits.page first views parts;
+        sources = λ pending. sources_made (page_limit s) first views parts;
       };
       row_is = λ i. record {
         plan = Some plan;
@@ -532,7 +541,9 @@ module _ (s : Session) (h later : History) (owner : RendererId) (name : ℕ) (ki
         all_missing : (from count : ℕ) → length (filter (λ (segment : ℕ). not (has_come (arrivals later name) segment)) (range_with_len from count)) ≡ count
         all_missing from zero = refl
         all_missing from (suc count) =
-            (λ i. length (cond {A = List ℕ} (not (has_come (quiet i) from)) (from ∷ filter (λ (segment : ℕ). not (has_come (arrivals later name) segment)) (range_with_len (from + 1) count)) (filter (λ (segment : ℕ). not (has_come (arrivals later name) segment)) (range_with_len (from + 1) count))))
+            (λ i. length (cond {A = List ℕ} (not (has_come (quiet i) from))
+            (from ∷ filter (λ (segment : ℕ). not (has_come (arrivals later name) segment)) (range_with_len (from + 1) count))
+            (filter (λ (segment : ℕ). not (has_come (arrivals later name) segment)) (range_with_len (from + 1) count))))
             ∙ ap suc (all_missing (from + 1) count)
 
         lacks : has_all s.limits later (as_built plan) ≡ false
@@ -552,7 +563,8 @@ module _ (s : Session) (h later : History) (owner : RendererId) (name : ℕ) (ki
           where
             by : (each : Plan) → each ≡ plans.File n → coming_by s later (as_built plan) (Some each) ≡ writing [] none_came
             by (plans.File m) same =
-                λ i. cond (lacks i) settled (writing [] (map (λ (segment : ℕ). has_come (quiet i) segment) (range_with_len 0 (length (spans s.limits (as_built plan))))))
+                λ i. cond (lacks i) settled
+                (writing [] (map (λ (segment : ℕ). has_come (quiet i) segment) (range_with_len 0 (length (spans s.limits (as_built plan))))))
             by plans.None same = absurd (cc same)
             by plans.Inline same = absurd (cc same)
             by (plans.Shared m) same = absurd (cc same)

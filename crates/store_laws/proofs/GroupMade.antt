@@ -5,7 +5,7 @@ use Rattle.std.proofs.lemmas.List.Concat.{flat_map-append}
 use Rattle.blob_words.specs.declared.tally.Tally.{Tally}
 use Rattle.session_script.specs.declared.event.Event.{Event}
 use Rattle.answer_text.specs.declared.answer.Answer.{Answer}
-use Rattle.blob_model.specs.Session.{Session}
+use Rattle.blob_model.specs.Session.{Session, page_limit}
 use Rattle.blob_model.specs.History.{History, said_all, after, has_ended}
 use Rattle.blob_model.specs.Builds.{builds}
 use Rattle.blob_model.specs.Pages.{pages}
@@ -76,7 +76,7 @@ module _ (s : Session) (h : History) (event : Event) (own l4 : List Answer) wher
 
   -- the lists make a legal group
   pub group_legal : IsOwn s h event own → l4 ≡ removals s (left_files l4) (after_late_drops s line) → has_ended h ≡ false → (counted : Tally)
-      → counted ≡ tally s.limits.page (after_all s l4 line)
+      → counted ≡ tally (page_limit s) (after_all s l4 line)
       → IsLegalGroup s h (record { event = event; answers = (answers_of s own l4 line); tally = counted }) × (after h event (answers_of s own l4 line) ≡
       (after_all s l4 line))
   group_legal is removed still counted counts =
@@ -87,9 +87,9 @@ module _ (s : Session) (h : History) (event : Event) (own l4 : List Answer) wher
       let p6 = page_jobs s (after_grants s l4 line) in
       let c7 = compactions s (after_page_jobs s l4 line) in
       let left_is : left_files (answers_of s own l4 line) ≡ left_files l4 =
-      left_eight own d1 e2 d3 l4 g5 p6 c7 (own_leaves s h event own is) (drops_leave s line) (endings_leave s (after_drops s line) (builds s.limits.page
+      left_eight own d1 e2 d3 l4 g5 p6 c7 (own_leaves s h event own is) (drops_leave s line) (endings_leave s (after_drops s line) (builds (page_limit s)
       (after_drops s line))) (drops_leave s (after_endings s line))
-      (grants_leave s (after_removals s l4 line) (waits s.limits.page (after_removals s l4 line))) (page_jobs_leave s (after_grants s l4 line))
+      (grants_leave s (after_removals s l4 line) (waits (page_limit s) (after_removals s l4 line))) (page_jobs_leave s (after_grants s l4 line))
       (compactions_leave s (after_page_jobs s l4 line)) in
       let rest : settle s (left_files l4) line ≡ d1 ++ (e2 ++ (d3 ++ (l4 ++ (g5 ++ (p6 ++ (c7 ++ [])))))) =
       ap (λ (list : List Answer). d1 ++ (e2 ++ (d3 ++ (list ++ settle_by (grants s ∷ page_jobs s ∷ compactions s ∷ []) (said_all
@@ -105,7 +105,7 @@ module _ (s : Session) (h : History) (event : Event) (own l4 : List Answer) wher
           own = own;
           is_own = is;
           settles = whole ∙ ap (λ (list : List Answer). own ++ list) (sym owed);
-          counts = counts ∙ ap (tally s.limits.page) (sym later);
+          counts = counts ∙ ap (tally (page_limit s)) (sym later);
         },
         later,
       )
@@ -129,21 +129,21 @@ module _ (s : Session) (h : History) (event : Event) (own l4 : List Answer) wher
 
 -- the lists behind the drops of list 3 change no life
 module _ (s : Session) (line : History) (l4 : List Answer) where
-  pub late_removals : l4 ≡ removals s (left_files l4) (after_late_drops s line) → live s.limits.page (after_removals s l4 line) ≡ live s.limits.page
+  pub late_removals : l4 ≡ removals s (left_files l4) (after_late_drops s line) → live (page_limit s) (after_removals s l4 line) ≡ live (page_limit s)
       (after_late_drops s line)
   late_removals removed =
-      live_late s.limits.page (after_late_drops s line) l4
-      (subst AllLate (sym removed) (removals_late (left_files l4) (filter (is_due (after_late_drops s line) (files s.limits.page
+      live_late (page_limit s) (after_late_drops s line) l4
+      (subst AllLate (sym removed) (removals_late (left_files l4) (filter (is_due (after_late_drops s line) (files (page_limit s)
       (after_late_drops s line))) (pages (after_late_drops s line)))))
 
-  pub late_grants : live s.limits.page (after_grants s l4 line) ≡ live s.limits.page (after_removals s l4 line)
-  late_grants = live_late s.limits.page (after_removals s l4 line) (grants s (after_removals s l4 line)) (grants_late s (after_removals s l4 line)
-      (waits s.limits.page (after_removals s l4 line)))
+  pub late_grants : live (page_limit s) (after_grants s l4 line) ≡ live (page_limit s) (after_removals s l4 line)
+  late_grants = live_late (page_limit s) (after_removals s l4 line) (grants s (after_removals s l4 line)) (grants_late s (after_removals s l4 line)
+      (waits (page_limit s) (after_removals s l4 line)))
 
-  pub late_page_jobs : live s.limits.page (after_page_jobs s l4 line) ≡ live s.limits.page (after_grants s l4 line)
-  late_page_jobs = live_late s.limits.page (after_grants s l4 line) (page_jobs s (after_grants s l4 line)) (all_late (page_jobs s (after_grants s l4 line))
+  pub late_page_jobs : live (page_limit s) (after_page_jobs s l4 line) ≡ live (page_limit s) (after_grants s l4 line)
+  late_page_jobs = live_late (page_limit s) (after_grants s l4 line) (page_jobs s (after_grants s l4 line)) (all_late (page_jobs s (after_grants s l4 line))
       (page_jobs_still s (after_grants s l4 line)))
 
-  pub late_compactions : live s.limits.page (after_all s l4 line) ≡ live s.limits.page (after_page_jobs s l4 line)
-  late_compactions = live_late s.limits.page (after_page_jobs s l4 line) (compactions s (after_page_jobs s l4 line)) (all_late (compactions s
+  pub late_compactions : live (page_limit s) (after_all s l4 line) ≡ live (page_limit s) (after_page_jobs s l4 line)
+  late_compactions = live_late (page_limit s) (after_page_jobs s l4 line) (compactions s (after_page_jobs s l4 line)) (all_late (compactions s
       (after_page_jobs s l4 line)) (compactions_still s (after_page_jobs s l4 line)))

@@ -40,7 +40,7 @@ use Rattle.blob_model.specs.Pages.{Page, Place, in_memory, in_page, reserved, of
 use Rattle.blob_model.specs.Parts.{own_bytes, own_lengths, sources}
 use Rattle.blob_model.specs.Pieces.{Piece, length_in, numbered, pieces, pieces_from, spans_of}
 use Rattle.blob_model.specs.Reached.{is_granted_piece}
-use Rattle.blob_model.specs.Session.{Session}
+use Rattle.blob_model.specs.Session.{Session, page_limit}
 use Rattle.blob_model.specs.Standing.{ended, grants_at_once, is_done, is_done_status, is_granted, is_unfinished, was_granted}
 use Rattle.blob_model.specs.Tally.{in_memory_of}
 use Rattle.blob_model.specs.Transport.{Arrival, arrivals, brought, byte_by_plan, byte_from, has_come, sent_byte, spans}
@@ -162,7 +162,7 @@ slot_has test (held ∷ shares) (suc slot) item at is =
 
 module _ (s : Session) (h later : History) (new : Build) (adds : Adds s h later new) where
   abbrev page : ℕ
-  page = s.limits.page
+  page = page_limit s
 
   abbrev old : List Build
   old = builds page h
@@ -210,7 +210,7 @@ module _ (s : Session) (h later : History) (new : Build) (adds : Adds s h later 
       settled (gathering (record {
         parts = own_lengths build.parts;
         segment = s.limits.segment;
-        page = s.limits.page;
+        page = page_limit s;
         taken = map (λ (segment : ℕ). brought (adds.segments build.name i) segment) (range_with_len 0 (length (spans s.limits build)));
       }))) waiting
   coming_by_same build (Some (plans.File n)) =
@@ -346,13 +346,15 @@ module _ (s : Session) (h later : History) (new : Build) (adds : Adds s h later 
     placed_still (Memory piece bytes) is =
         moved
         (λ one. ((facts_of s h).granted one ≡ true) × ((facts_of s h).place one ≡ in_memory) × (bytes ≡ (facts_of s h).bytes one) × (length bytes ≡ one.len))
-        (λ one. ((facts_of s later).granted one ≡ true) × ((facts_of s later).place one ≡ in_memory) × (bytes ≡ (facts_of s later).bytes one) × (length bytes ≡ one.len))
+        (λ one. ((facts_of s later).granted one ≡ true) × ((facts_of s later).place one ≡ in_memory) × (bytes ≡ (facts_of s later).bytes one)
+        × (length bytes ≡ one.len))
         piece.0
         (λ one member is. (granted_piece_same one member ∙ is.0, place_same one member ∙ is.1, is.2 ∙ sym (bytes_same one member), is.3)) is
     placed_still (Paged piece file off len) is =
         moved
         (λ one. ((facts_of s h).granted one ≡ true) × ((facts_of s h).place one ≡ in_page file.0) × (off ≡ (facts_of s h).offset one) × (len ≡ one.len))
-        (λ one. ((facts_of s later).granted one ≡ true) × ((facts_of s later).place one ≡ in_page file.0) × (off ≡ (facts_of s later).offset one) × (len ≡ one.len))
+        (λ one. ((facts_of s later).granted one ≡ true) × ((facts_of s later).place one ≡ in_page file.0) × (off ≡ (facts_of s later).offset one)
+        × (len ≡ one.len))
         piece.0
         (λ one member is. (granted_piece_same one member ∙ is.0, place_same one member ∙ is.1, is.2 ∙ sym (offset_same one.number), is.3)) is
     placed_still (Reserved piece len) is =
@@ -449,10 +451,12 @@ module _ (s : Session) (h later : History) (new : Build) (adds : Adds s h later 
             → IsInside (pieces page later) now view
         by None at is = absurd is
         by (Some item) at is =
-            subst (λ (o : Option Item). IsSomeAnd o (λ (each : Item). (view.off + view.len ≤ item_length each) × IsLongAs (pieces page later) each (piece_of_item each)))
+            subst (λ (o : Option Item). IsSomeAnd o (λ (each : Item). (view.off + view.len ≤ item_length each) × IsLongAs (pieces page later) each
+            (piece_of_item each)))
             (sym (still_held view.slot item at)) (is.0, long_still item (piece_of_item item) is.1)
 
-    cell_still : (view : View) → IsInside all shares view → (place : ℕ) → cell_at (pieces page later) now (view.slot, place) ≡ cell_at all shares (view.slot, place)
+    cell_still : (view : View) → IsInside all shares view → (place : ℕ) → cell_at (pieces page later) now (view.slot, place)
+        ≡ cell_at all shares (view.slot, place)
     cell_still view is place = by (item_at shares view.slot) refl is
       where
         of_piece : (number : ℕ) (size : ℕ) → IsSomeAnd (piece_in all number) (λ (one : Piece). size ≡ one.len)
@@ -532,8 +536,11 @@ module _ (s : Session) (h later : History) (new : Build) (adds : Adds s h later 
         → AllByRecursion (IsInside all shares) (held_views entry)
         → (is_pending status ≡ true → AllByRecursion (λ (name : ℕ). named name old ≡ true) (source_names entry.recipe))
         → StandsFor old all shares cells status entry → StandsFor (builds page later) (pieces page later) now cells status entry
-    stands_still cells statuses.Done entry steps inside sources is =
-        (denoted_still entry.views (append_second (IsInside all shares) (fixed_views entry.recipe ++ own_views entry.own) entry.views inside) ∙ is.0, is.1, is.2)
+    stands_still cells statuses.Done entry steps inside sources is = (
+      denoted_still entry.views (append_second (IsInside all shares) (fixed_views entry.recipe ++ own_views entry.own) entry.views inside) ∙ is.0,
+      is.1,
+      is.2,
+    )
     stands_still cells statuses.PendingQuota entry steps inside sources is = (recipe_still entry.recipe steps (sources refl) ∙ is.0, is.1, is.2)
     stands_still cells statuses.PendingTransport entry steps inside sources is = (recipe_still entry.recipe steps (sources refl) ∙ is.0, is.1, is.2)
     stands_still cells statuses.PendingReferencedBlobs entry steps inside sources is =
@@ -648,7 +655,8 @@ module _ (s : Session) (h later : History) (new : Build) (adds : Adds s h later 
     pages_still limit files is = record {
       same_limit = is.same_limit;
       sheets = is.sheets ∙ sym (sheets_same (page_facts_of h).asked 0 (page_facts_of h).written listed.in_writes);
-      slots = for_each (λ (file : FilePage). AllByRecursion (IsSlotOf shares) (held_in file)) (λ (file : FilePage). AllByRecursion (IsSlotOf now) (held_in file))
+      slots = for_each (λ (file : FilePage). AllByRecursion (IsSlotOf shares) (held_in file))
+          (λ (file : FilePage). AllByRecursion (IsSlotOf now) (held_in file))
           files.pages (λ file are. for_each (IsSlotOf shares) (IsSlotOf now) (held_in file) slot_still are) is.slots;
       reserved = refl;
       job = is.job ∙ sym (with_held_same (in_flight h) listed.in_job);
@@ -700,17 +708,20 @@ module _ (s : Session) (h later : History) (new : Build) (adds : Adds s h later 
       kept_append : (g : History) (list : List Build) (holds : Piece → Bool) (xs ys : List Piece)
           → kept_of g list holds (xs ++ ys) ≡ kept_of g list holds xs ++ kept_of g list holds ys
       kept_append g list holds xs ys =
-          ap (λ (zs : List Piece). filter (λ (piece : Piece). is_done g piece.blob && not (is_in_job g piece.number)) (in_memory_of g list zs)) (filter-append holds xs ys)
+          ap (λ (zs : List Piece). filter (λ (piece : Piece). is_done g piece.blob && not (is_in_job g piece.number)) (in_memory_of g list zs))
+          (filter-append holds xs ys)
           ∙ ap (λ (zs : List Piece). filter (λ (piece : Piece). is_done g piece.blob && not (is_in_job g piece.number)) zs)
           (filter-append (λ (piece : Piece). is_memory (place_in g list piece)) (filter holds xs) (filter holds ys))
-          ∙ filter-append (λ (piece : Piece). is_done g piece.blob && not (is_in_job g piece.number)) (in_memory_of g list (filter holds xs)) (in_memory_of g list (filter holds ys))
+          ∙ filter-append (λ (piece : Piece). is_done g piece.blob && not (is_in_job g piece.number)) (in_memory_of g list (filter holds xs))
+          (in_memory_of g list (filter holds ys))
 
       -- nothing of the new blob is
       none_new : (list : List Piece) → AllByRecursion (λ (piece : Piece). piece.blob ≡ new.name) list
           → filter (λ (piece : Piece). is_done later piece.blob && not (is_in_job later piece.number)) list ≡ []
       none_new list are =
           filter_none (λ (piece : Piece). is_done later piece.blob && not (is_in_job later piece.number)) list
-          (for_each (λ (piece : Piece). piece.blob ≡ new.name) (λ (piece : Piece). (is_done later piece.blob && not (is_in_job later piece.number)) ≡ false) list
+          (for_each (λ (piece : Piece). piece.blob ≡ new.name) (λ (piece : Piece). (is_done later piece.blob && not (is_in_job later piece.number)) ≡ false)
+          list
           (λ piece is. ap (λ (b : Bool). b && not (is_in_job later piece.number)) (ap (λ (n : ℕ). is_done later n) is ∙ adds.undone)) are)
 
       old_there : AllByRecursion (λ (piece : Piece). (named piece.blob old ≡ true) × IsSome (piece_in all piece.number)) all
@@ -724,21 +735,25 @@ module _ (s : Session) (h later : History) (new : Build) (adds : Adds s h later 
       kept_same list are =
           let holds' : Piece → Bool = is_held (builds page later) now (rows ++ Some row ∷ []) in
           let holds : Piece → Bool = is_held old shares rows in
-          ap (λ (xs : List Piece). filter (λ (piece : Piece). is_done later piece.blob && not (is_in_job later piece.number)) (in_memory_of later (builds page later) xs))
+          ap (λ (xs : List Piece). filter (λ (piece : Piece). is_done later piece.blob && not (is_in_job later piece.number))
+          (in_memory_of later (builds page later) xs))
           (filter-each holds' holds list
           (for_each (λ (piece : Piece). (named piece.blob old ≡ true) × IsSome (piece_in all piece.number)) (λ (piece : Piece). holds' piece ≡ holds piece) list
           (λ piece is. held_same piece is.0 is.1) are))
           ∙ ap (λ (xs : List Piece). filter (λ (piece : Piece). is_done later piece.blob && not (is_in_job later piece.number)) xs)
-          (filter-each (λ (piece : Piece). is_memory (place_in later (builds page later) piece)) (λ (piece : Piece). is_memory (place_in h old piece)) (filter holds list)
+          (filter-each (λ (piece : Piece). is_memory (place_in later (builds page later) piece)) (λ (piece : Piece). is_memory (place_in h old piece))
+          (filter holds list)
           (filter_all (λ (piece : Piece). is_memory (place_in later (builds page later) piece) ≡ is_memory (place_in h old piece)) holds list
           (for_each (λ (piece : Piece). (named piece.blob old ≡ true) × IsSome (piece_in all piece.number))
           (λ (piece : Piece). is_memory (place_in later (builds page later) piece) ≡ is_memory (place_in h old piece)) list
           (λ piece is. ap is_memory (place_same piece is.0)) are)))
           ∙ filter-each (λ (piece : Piece). is_done later piece.blob && not (is_in_job later piece.number))
           (λ (piece : Piece). is_done h piece.blob && not (is_in_job h piece.number)) (in_memory_of h old (filter holds list))
-          (filter_all (λ (piece : Piece). (is_done later piece.blob && not (is_in_job later piece.number)) ≡ (is_done h piece.blob && not (is_in_job h piece.number)))
+          (filter_all (λ (piece : Piece). (is_done later piece.blob && not (is_in_job later piece.number))
+          ≡ (is_done h piece.blob && not (is_in_job h piece.number)))
           (λ (piece : Piece). is_memory (place_in h old piece)) (filter holds list)
-          (filter_all (λ (piece : Piece). (is_done later piece.blob && not (is_in_job later piece.number)) ≡ (is_done h piece.blob && not (is_in_job h piece.number))) holds list
+          (filter_all (λ (piece : Piece). (is_done later piece.blob && not (is_in_job later piece.number))
+          ≡ (is_done h piece.blob && not (is_in_job h piece.number))) holds list
           (for_each (λ (piece : Piece). (named piece.blob old ≡ true) × IsSome (piece_in all piece.number))
           (λ (piece : Piece). (is_done later piece.blob && not (is_in_job later piece.number)) ≡ (is_done h piece.blob && not (is_in_job h piece.number))) list
           (λ piece is. λ i. done_same piece.blob is.0 i && not (in_job_same piece.number i)) are)))
@@ -761,9 +776,9 @@ module _ (s : Session) (h later : History) (new : Build) (adds : Adds s h later 
 
 module _ (s : Session) (h : History) (stands : ℕ → Bool) (book : Book) (shares : List (Option Share)) (rows : List (Option Row)) (quota : Queue)
     (files : Files) (order : List (ℕ × ℕ)) (contents : ContentsStand s h stands book shares rows quota files order) (unmarked : AreUnmarked book.entries)
-    (rest : IsAtRest s.limits.page h) (listed : AreListed s.limits.page h) (later : History) (new : Build) (adds : Adds s h later new) where
+    (rest : IsAtRest (page_limit s) h) (listed : AreListed (page_limit s) h) (later : History) (new : Build) (adds : Adds s h later new) where
   abbrev blobs : List Build
-  blobs = builds s.limits.page h
+  blobs = builds (page_limit s) h
 
   -- a blob of before whose entry takes bytes from blobs of before
   abbrev IsReady : Build → Option Entry → Type 0
@@ -771,7 +786,7 @@ module _ (s : Session) (h : History) (stands : ℕ → Bool) (book : Book) (shar
       → AllByRecursion (λ (name : ℕ). named name blobs ≡ true) (source_names entry.recipe))
 
   abbrev Fine : Build → Option Entry → Type 0
-  Fine build held = EntryStands blobs (pieces s.limits.page h) shares (own_pieces s.limits.page h) build held
+  Fine build held = EntryStands blobs (pieces (page_limit s) h) shares (own_pieces (page_limit s) h) build held
 
   are_ready : (earlier list : List Build) (entries : List (Option Entry)) → AreOrdered earlier list
       → AllByRecursion (λ (build : Build). is_some build.plan ≡ false → is_unfinished h build.name ≡ false) list
@@ -820,36 +835,41 @@ module _ (s : Session) (h : History) (stands : ℕ → Bool) (book : Book) (shar
       contents.outlines_stand contents.entries.each
 
   module _ (entry : Entry) (row : Row) (now : List (Option Share))
-      (come : AreAdded (pieces s.limits.page later) (facts_of s later) (length (pieces s.limits.page h)) shares now) (entered : IsEntered s later new now entry row) where
+      (come : AreAdded (pieces (page_limit s) later) (facts_of s later) (length (pieces (page_limit s) h)) shares now)
+      (entered : IsEntered s later new now entry row) where
     -- what stands of the blobs of before and of the new one
     stood_more : {Y : Type 0} (f g : Build → Y) → ((build : Build) → IsOld s h later new adds build → f build ≡ g build)
-        → map (λ (build : Build). cond ((new.name == build.name) || stands build.name) (Some (f build)) None) (builds s.limits.page later)
+        → map (λ (build : Build). cond ((new.name == build.name) || stands build.name) (Some (f build)) None) (builds (page_limit s) later)
         ≡ map (λ (build : Build). cond (stands build.name) (Some (g build)) None) blobs ++ Some (f new) ∷ []
     stood_more {Y} f g same =
         ap (map (λ (build : Build). cond ((new.name == build.name) || stands build.name) (Some (f build)) None)) adds.blobs
         ∙ map-more (λ (build : Build). cond ((new.name == build.name) || stands build.name) (Some (f build)) None)
         (λ (build : Build). cond (stands build.name) (Some (g build)) None) blobs new (Some (f new))
         (for_each (IsOld s h later new adds)
-        (λ (build : Build). cond {A = Option Y} ((new.name == build.name) || stands build.name) (Some (f build)) None ≡ cond (stands build.name) (Some (g build)) None) blobs
+        (λ (build : Build). cond {A = Option Y} ((new.name == build.name) || stands build.name) (Some (f build)) None ≡ cond (stands build.name)
+        (Some (g build)) None) blobs
         (λ build member. λ i. cond {A = Option Y} (other s h later new adds build.name member i || stands build.name) (Some (same build member i)) None)
         (each_old s h later new adds))
         (λ i. cond {A = Option Y} (eq-eqb new.name new.name refl i || stands new.name) (Some (f new)) None)
 
-    waits_now : map {B = ℕ × ℕ} (λ (build : Build). (build.name, own_bytes build.parts)) (waits s.limits.page later)
-        ≡ map {B = ℕ × ℕ} (λ (build : Build). (build.name, own_bytes build.parts)) (waits s.limits.page h)
+    waits_now : map {B = ℕ × ℕ} (λ (build : Build). (build.name, own_bytes build.parts)) (waits (page_limit s) later)
+        ≡ map {B = ℕ × ℕ} (λ (build : Build). (build.name, own_bytes build.parts)) (waits (page_limit s) h)
         ++ cond (is_waiting later new) ((new.name, own_bytes new.parts) ∷ []) []
     waits_now =
         ap (λ (list : List Build). map {B = ℕ × ℕ} (λ (build : Build). (build.name, own_bytes build.parts)) (filter (is_waiting later) list)) adds.blobs
         ∙ ap (map {B = ℕ × ℕ} (λ (build : Build). (build.name, own_bytes build.parts))) (filter-append (is_waiting later) blobs (new ∷ []))
-        ∙ map-append {B = ℕ × ℕ} (λ (build : Build). (build.name, own_bytes build.parts)) (filter (is_waiting later) blobs) (filter (is_waiting later) (new ∷ []))
-        ∙ (λ i. map {B = ℕ × ℕ} (λ (build : Build). (build.name, own_bytes build.parts)) (filter-each (is_waiting later) (is_waiting h) blobs all_same i) ++ last (is_waiting later new) i)
+        ∙ map-append {B = ℕ × ℕ} (λ (build : Build). (build.name, own_bytes build.parts)) (filter (is_waiting later) blobs)
+        (filter (is_waiting later) (new ∷ []))
+        ∙ (λ i. map {B = ℕ × ℕ} (λ (build : Build). (build.name, own_bytes build.parts)) (filter-each (is_waiting later) (is_waiting h) blobs all_same i)
+        ++ last (is_waiting later new) i)
       where
         all_same : AllByRecursion (λ (build : Build). is_waiting later build ≡ is_waiting h build) blobs
         all_same =
             for_each (IsOld s h later new adds) (λ (build : Build). is_waiting later build ≡ is_waiting h build) blobs (waiting_same s h later new adds)
             (each_old s h later new adds)
 
-        last : (b : Bool) → map {B = ℕ × ℕ} (λ (build : Build). (build.name, own_bytes build.parts)) (cond b (new ∷ []) []) ≡ cond b ((new.name, own_bytes new.parts) ∷ []) []
+        last : (b : Bool) → map {B = ℕ × ℕ} (λ (build : Build). (build.name, own_bytes build.parts)) (cond b (new ∷ []) [])
+            ≡ cond b ((new.name, own_bytes new.parts) ∷ []) []
         last true = refl
         last false = refl
 
@@ -867,7 +887,12 @@ module _ (s : Session) (h : History) (stands : ℕ → Bool) (book : Book) (shar
           ∙ ap (map (λ (build : Build). build.name)) (sym adds.blobs);
       outlines_stand = map-append (option_map outline) book.entries (Some entry ∷ []) ∙ (λ i. contents.outlines_stand i ++ Some (entered.outline_is i) ∷ [])
           ∙ sym (stood_more (outline_of s later) (outline_of s h)
-          (λ build member. λ i. record { owner = build.builder; size = size build; kind = build.kind; status = status_same s h later new adds build member i }));
+          (λ build member. λ i. record {
+            owner = build.builder;
+            size = size build;
+            kind = build.kind;
+            status = status_same s h later new adds build member i;
+          }));
       marks = subst (λ (list : List Build). Beside (IsMarkedRight s later) list (book.entries ++ Some entry ∷ [])) (sym adds.blobs)
           (beside_more (IsMarkedRight s later) blobs book.entries new (Some entry)
           (unmarked_right s h later blobs book.entries contents.marks unmarked)
@@ -877,23 +902,23 @@ module _ (s : Session) (h : History) (stands : ℕ → Bool) (book : Book) (shar
       items = record { each = placed_now s h later new adds listed shares now contents.items.each come; apart = come.apart };
       entries = record {
         each = subst
-            (λ (list : List Build). Beside (EntryStands (builds s.limits.page later) (pieces s.limits.page later) now (own_pieces s.limits.page later)) list
+            (λ (list : List Build). Beside (EntryStands (builds (page_limit s) later) (pieces (page_limit s) later) now (own_pieces (page_limit s) later)) list
             (book.entries ++ Some entry ∷ [])) (sym adds.blobs)
-            (beside_more (EntryStands (builds s.limits.page later) (pieces s.limits.page later) now (own_pieces s.limits.page later)) blobs book.entries new
+            (beside_more (EntryStands (builds (page_limit s) later) (pieces (page_limit s) later) now (own_pieces (page_limit s) later)) blobs book.entries new
             (Some entry)
-            (beside_both IsReady Fine (EntryStands (builds s.limits.page later) (pieces s.limits.page later) now (own_pieces s.limits.page later)) blobs
+            (beside_both IsReady Fine (EntryStands (builds (page_limit s) later) (pieces (page_limit s) later) now (own_pieces (page_limit s) later)) blobs
             book.entries (entry_still s h later new adds listed shares now contents.items.each come) ready contents.entries.each) entered.stands);
         written = subst
-            (λ (list : List Build). RowsBeside (λ (build : Build) (one : Row). AreWritten now (own_pieces s.limits.page later build.name) one.coming) list
+            (λ (list : List Build). RowsBeside (λ (build : Build) (one : Row). AreWritten now (own_pieces (page_limit s) later build.name) one.coming) list
             (rows ++ Some row ∷ [])) (sym adds.blobs)
-            (rows_each (IsOld s h later new adds) (λ (build : Build) (one : Row). AreWritten shares (own_pieces s.limits.page h build.name) one.coming)
-            (λ (build : Build) (one : Row). AreWritten now (own_pieces s.limits.page later build.name) one.coming) blobs rows new row as_many
+            (rows_each (IsOld s h later new adds) (λ (build : Build) (one : Row). AreWritten shares (own_pieces (page_limit s) h build.name) one.coming)
+            (λ (build : Build) (one : Row). AreWritten now (own_pieces (page_limit s) later build.name) one.coming) blobs rows new row as_many
             (written_still s h later new adds listed shares now contents.items.each come) (each_old s h later new adds) contents.entries.written entered.slots);
       };
       waiting = ap (λ (list : List (ℕ × ℕ)). list ++ cond (is_waiting later new) ((new.name, own_bytes new.parts) ∷ []) []) contents.waiting ∙ sym waits_now;
       memory_limit = contents.memory_limit;
       page_files_stand = subst
-          (λ (facts : PageFacts). PagesStand (pieces s.limits.page later) facts s.limits.disk now (record files { reserved = weights reserved_weight now }))
+          (λ (facts : PageFacts). PagesStand (pieces (page_limit s) later) facts s.limits.disk now (record files { reserved = weights reserved_weight now }))
           (sym adds.facts) (pages_still s h later new adds listed shares now contents.items.each come s.limits.disk files contents.page_files_stand);
       recent = λ on. contents.recent (sym (ap (λ (facts : PageFacts). facts.paging) adds.facts) ∙ on)
           ∙ sym (order_same s h later new adds listed shares now contents.items.each come rows row as_many);

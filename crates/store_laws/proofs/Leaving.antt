@@ -33,7 +33,7 @@ use Rattle.blob_model.specs.History.{History}
 use Rattle.blob_model.specs.Live.{is_live}
 use Rattle.blob_model.specs.Order.{named, Distinct}
 use Rattle.blob_model.specs.Pieces.{Piece, pieces}
-use Rattle.blob_model.specs.Session.{Session}
+use Rattle.blob_model.specs.Session.{Session, page_limit}
 use Rattle.blob_model.specs.Settle.{drops}
 use Rattle.blob_model.specs.Waits.{is_shared}
 use Rattle.blob_model.proofs.Lists.{append_second, false_true, or_first, or_second, for_each}
@@ -73,32 +73,32 @@ module _ (s : Session) (h : History) (names : List ℕ) (whole : Entries) (sound
   same_left test model (Some entry) b tests at = ap (λ (c : Bool). left c (Some entry)) (tests ∙ sym at)
 
   swept_left : (number : ℕ) (list : List Build) (entries : Entries) → Distinct list → ArePlaced names number list
-      → Beside (Agrees s.limits.page h) list entries → IsBehind whole number entries → Tells s.limits.page h names whole sound alive list
+      → Beside (Agrees (page_limit s) h) list entries → IsBehind whole number entries → Tells (page_limit s) h names whole sound alive list
       → swept names number entries ≡ entries_left alive list entries
   swept_left number [] [] distinct placed beside behind tells = refl
   swept_left number [] (held ∷ later) distinct placed beside behind tells = absurd beside
   swept_left number (build ∷ list) [] distinct placed beside behind tells = absurd beside
   swept_left number (build ∷ list) (held ∷ later) distinct placed beside behind tells =
-      let here : alive build.name ≡ lives s.limits.page h build list =
+      let here : alive build.name ≡ lives (page_limit s) h build list =
       tells build.name (or_first (build.name == build.name) (named build.name list) (eq-eqb build.name build.name refl))
-      ∙ lives_named s.limits.page h build list distinct.0 in
-      let next : Tells s.limits.page h names whole sound alive list =
+      ∙ lives_named (page_limit s) h build list distinct.0 in
+      let next : Tells (page_limit s) h names whole sound alive list =
       λ name there.
       tells name (or_second (build.name == name) (named name list) there)
-      ∙ named_next s.limits.page h build list name (other_name build list name distinct.0 there) in
+      ∙ named_next (page_limit s) h build list name (other_name build list name distinct.0 there) in
       ap (λ (one : Option Entry). one ∷ swept names (number + 1) later)
-      (same_left (test_at names number held later) (lives s.limits.page h build list) held (alive build.name)
-      (tests_agree s.limits.page h names whole sound number build list held later placed beside behind) here)
+      (same_left (test_at names number held later) (lives (page_limit s) h build list) held (alive build.name)
+      (tests_agree (page_limit s) h names whole sound number build list held later placed beside behind) here)
       ∙ ap (λ (list : Entries). left (alive build.name) held ∷ list)
       (swept_left (number + 1) list later distinct.1 placed.1 beside.1 (behind_next whole number held later behind) next)
 
 live_left : (s : Session) (h : History) (book : Book) → Describes s h book
-    → swept book.names 0 book.entries ≡ entries_left (is_live s.limits.page h) (builds s.limits.page h) book.entries
+    → swept book.names 0 book.entries ≡ entries_left (is_live (page_limit s) h) (builds (page_limit s) h) book.entries
 live_left s h book tell =
-    let list = builds s.limits.page h in
-    swept_left s h book.names book.entries tell.sound (is_live s.limits.page h) 0 list book.entries tell.distinct
+    let list = builds (page_limit s) h in
+    swept_left s h book.names book.entries tell.sound (is_live (page_limit s) h) 0 list book.entries tell.distinct
     (subst (λ (names : List ℕ). ArePlaced names 0 list) (sym tell.agree.names) (placed list tell.distinct)) tell.agree.each (behind_all book.entries)
-    (λ name there. ap (λ (xs : List Build). named name xs) (live_living s.limits.page h))
+    (λ name there. ap (λ (xs : List Build). named name xs) (live_living (page_limit s) h))
 
 -- ---- items that are kept
 
@@ -227,25 +227,25 @@ module _ (list : List Build) (all : List Piece) (own : ℕ → List ℕ) (shares
 -- ---- behind the drops
 
 module _ (s : Session) (h : History) (stands : ℕ → Bool) (book : Book) (tell : Describes s h book)
-    (covers : (name : ℕ) → is_live s.limits.page h name ≡ true → stands name ≡ true) where
+    (covers : (name : ℕ) → is_live (page_limit s) h name ≡ true → stands name ≡ true) where
   abbrev page : ℕ
-  page = s.limits.page
+  page = page_limit s
 
   abbrev alive : ℕ → Bool
-  alive = is_live s.limits.page h
+  alive = is_live (page_limit s) h
 
   abbrev g : History
   g = after_drops s h
 
   abbrev list_now : List Build
-  list_now = builds s.limits.page h
+  list_now = builds (page_limit s) h
 
   -- the blobs that are dropped
   abbrev dropped_list : List Build
   dropped_list = filter (goes h alive) (reverse list_now)
 
-  blobs : builds s.limits.page g ≡ list_now
-  blobs = builds_all s.limits.page h (drops s h)
+  blobs : builds (page_limit s) g ≡ list_now
+  blobs = builds_all (page_limit s) h (drops s h)
 
   stays_as : (build : Build) → alive build.name ≡ true → StandsAs s h g build
   stays_as build here = stays s h book.names book.entries tell.sound alive list_now build here
@@ -322,7 +322,7 @@ module _ (s : Session) (h : History) (stands : ℕ → Bool) (book : Book) (tell
   -- rows
 
   row_still : (build : Build) → alive build.name ≡ true → row_of s g build ≡ row_of s h build
-  row_still build here = λ i. record (row_of s h build) { first = pieces_before s.limits.page (blobs i) build.name; coming = coming_still i }
+  row_still build here = λ i. record (row_of s h build) { first = pieces_before (page_limit s) (blobs i) build.name; coming = coming_still i }
     where
       same : StandsAs s h g build
       same = stays_as build here
@@ -450,11 +450,11 @@ module _ (s : Session) (h : History) (stands : ℕ → Bool) (book : Book) (tell
 
   -- all of them
 
-  pieces_same : pieces s.limits.page g ≡ pieces s.limits.page h
-  pieces_same = drops_keep (λ (g : History). pieces s.limits.page g) (λ g name. refl) h dropped_list
+  pieces_same : pieces (page_limit s) g ≡ pieces (page_limit s) h
+  pieces_same = drops_keep (λ (g : History). pieces (page_limit s) g) (λ g name. refl) h dropped_list
 
-  own_same_pieces : own_pieces s.limits.page g ≡ own_pieces s.limits.page h
-  own_same_pieces = drops_keep (λ (g : History). own_pieces s.limits.page g) (λ g name. refl) h dropped_list
+  own_same_pieces : own_pieces (page_limit s) g ≡ own_pieces (page_limit s) h
+  own_same_pieces = drops_keep (λ (g : History). own_pieces (page_limit s) g) (λ g name. refl) h dropped_list
 
   facts_same : facts_of s g ≡ facts_of s h
   facts_same = drops_keep (λ (g : History). facts_of s g) (λ g name. refl) h dropped_list
@@ -471,10 +471,10 @@ module _ (s : Session) (h : History) (stands : ℕ → Bool) (book : Book) (tell
     abbrev Stand : List Build → List Piece → (ℕ → List ℕ) → Type 0
     Stand list all own = EntriesStand list all own later entries_now rows_now
 
-    base : Stand list_now (pieces s.limits.page h) (own_pieces s.limits.page h)
+    base : Stand list_now (pieces (page_limit s) h) (own_pieces (page_limit s) h)
     base = record {
-      each = each_left list_now (pieces s.limits.page h) (own_pieces s.limits.page h) shares later list_now book.entries kept.viewed contents.entries.each;
-      written = written_left (own_pieces s.limits.page h) shares later list_now rows kept.pinned contents.entries.written;
+      each = each_left list_now (pieces (page_limit s) h) (own_pieces (page_limit s) h) shares later list_now book.entries kept.viewed contents.entries.each;
+      written = written_left (own_pieces (page_limit s) h) shares later list_now rows kept.pinned contents.entries.written;
     }
 
     left_stand : EntriesAre s g alive (book_of book.names entries_now) later rows_now
@@ -486,11 +486,11 @@ module _ (s : Session) (h : History) (stands : ℕ → Bool) (book : Book) (tell
       rows_stand = rowed_left list_now rows contents.rows_stand
           ∙ ap (λ (list : List Build). map (λ (build : Build). cond (alive build.name) (Some (row_of s g build)) None) list) (sym blobs);
       items = subst (λ (all : List Piece). ItemsStand all (facts_of s g) later) (sym pieces_same)
-          (subst (λ (facts : Facts). ItemsStand (pieces s.limits.page h) facts later) (sym facts_same)
-          (items_left (pieces s.limits.page h) (facts_of s h) shares later kept.still contents.items));
-      entries = subst (λ (list : List Build). Stand list (pieces s.limits.page g) (own_pieces s.limits.page g)) (sym blobs)
-          (subst (λ (all : List Piece). Stand list_now all (own_pieces s.limits.page g)) (sym pieces_same)
-          (subst (λ (own : ℕ → List ℕ). Stand list_now (pieces s.limits.page h) own) (sym own_same_pieces) base));
+          (subst (λ (facts : Facts). ItemsStand (pieces (page_limit s) h) facts later) (sym facts_same)
+          (items_left (pieces (page_limit s) h) (facts_of s h) shares later kept.still contents.items));
+      entries = subst (λ (list : List Build). Stand list (pieces (page_limit s) g) (own_pieces (page_limit s) g)) (sym blobs)
+          (subst (λ (all : List Piece). Stand list_now all (own_pieces (page_limit s) g)) (sym pieces_same)
+          (subst (λ (own : ℕ → List ℕ). Stand list_now (pieces (page_limit s) h) own) (sym own_same_pieces) base));
     }
 
 pub sweep_leaves_live : SweepLeavesLive

@@ -17,7 +17,7 @@ use Rattle.session_script.specs.declared.event.Part.{Part}
 use Rattle.answer_text.specs.declared.answer.Answer.{Answer}
 use Rattle.answer_text.specs.declared.answer.Answer.TheVariants as answers
 use Rattle.answer_text.specs.declared.refusal.Refusal.{Refusal}
-use Rattle.blob_model.specs.Session.{Session}
+use Rattle.blob_model.specs.Session.{Session, page_limit}
 use Rattle.blob_model.specs.History.{History, said, said_all}
 use Rattle.blob_model.specs.Builds.{Build, Cell, sent, filed, lent, builds, slice_parts}
 use Rattle.blob_model.specs.Pieces.{Piece, pieces, piece_with}
@@ -61,7 +61,7 @@ named_leaves f none (x ∷ xs) = ap (λ (zs : List ℕ). zs ++ left_files (map f
 
 pub drops_leave : (s : Session) (h : History) → LeavesNone (drops s h)
 drops_leave s h = named_leaves (λ (build : Build). answers.Dropped build.name) (λ build. refl) (filter (λ
-    (build : Build). is_unfinished h build.name && not (is_live s.limits.page h build.name)) (reverse (builds s.limits.page h)))
+    (build : Build). is_unfinished h build.name && not (is_live (page_limit s) h build.name)) (reverse (builds (page_limit s) h)))
 
 pub endings_leave : (s : Session) (h : History) (list : List Build) → LeavesNone (endings_of s h list)
 endings_leave s h [] = refl
@@ -89,7 +89,7 @@ grants_leave s h (build ∷ list) = go (nat_le _ s.limits.memory) (grants_leave 
     go false rest = refl
 
 pub page_jobs_leave : (s : Session) (h : History) → LeavesNone (page_jobs s h)
-page_jobs_leave s h = go (may_start h && nat_lt 0 (length (waits s.limits.page h))) (chosen s.limits h)
+page_jobs_leave s h = go (may_start h && nat_lt 0 (length (waits (page_limit s) h))) (chosen s.limits h)
   where
     go : (b : Bool) (list : List ℕ) → LeavesNone (cond b (page_job_of h list) [])
     go true [] = refl
@@ -145,10 +145,10 @@ faults_leave s h reader (cell ∷ cells) = all_append (cell_fault s h reader cel
 
     of : (piece : Option Piece) → AllByRecursion LeavesNone (sent_fault s h reader piece)
     of None = tt
-    of (Some piece) = at (place s.limits.page h piece)
+    of (Some piece) = at (place (page_limit s) h piece)
 
     one : (cell : Cell) → AllByRecursion LeavesNone (cell_fault s h reader cell)
-    one (sent blob index) = of (piece_with (pieces s.limits.page h) (sent blob index))
+    one (sent blob index) = of (piece_with (pieces (page_limit s) h) (sent blob index))
     one (filed name stamp index) = tt
     one (lent slot index) = (refl, tt)
 
@@ -178,11 +178,11 @@ step_leaves s h reader None own is = absurd is
 step_leaves s h reader (Some open_reader) own is = step_by_leaves s h reader open_reader (ended h open_reader.blob) own is
 
 accepted_leaves : (s : Session) (h : History) (event : Event) (own : List Answer) → IsAccepted s h event own → LeavesNone own
-accepted_leaves s h (events.Step reader) own is = step_leaves s h reader (reader_at s.limits.page h reader.0) own is
+accepted_leaves s h (events.Step reader) own is = step_leaves s h reader (reader_at (page_limit s) h reader.0) own is
 accepted_leaves s h (events.Build renderer name kind parts) own is = one_leaves own ((build_answer s h renderer.0 name parts ∷ []) ∷ [])
     (build_leaves s h name parts (line_status s h renderer.0 name parts), tt) is
 accepted_leaves s h (events.Slice renderer name source from to kind) own is =
-    let parts = slice_parts (builds s.limits.page h) source from to in one_leaves own ((build_answer s h renderer.0 name parts ∷ []) ∷ [])
+    let parts = slice_parts (builds (page_limit s) h) source from to in one_leaves own ((build_answer s h renderer.0 name parts ∷ []) ∷ [])
     (build_leaves s h name parts (line_status s h renderer.0 name parts), tt) is
 accepted_leaves s h (events.Segment renderer b segment bytes) own is =
     one_leaves own ((answers.Taken segment ∷ stored_answers s h b segment (plan_in s h b)) ∷ unstored_answers s h segment (plan_in s h b))
@@ -197,11 +197,11 @@ accepted_leaves s h (events.Revoke renderer text) own is = one_leaves own (accep
     go true = refl
     go false = refl
 accepted_leaves s h (events.Disk job) own is =
-    one_leaves own ((job_done h job (source_of (in_flight h)) (job_left s.limits.page h) ∷ []) ∷ job_failed h job (source_of (in_flight h))
-    (job_left s.limits.page h)) (
-      done_leaves h job (source_of (in_flight h)) (job_left s.limits.page h),
+    one_leaves own ((job_done h job (source_of (in_flight h)) (job_left (page_limit s) h) ∷ []) ∷ job_failed h job (source_of (in_flight h))
+    (job_left (page_limit s) h)) (
+      done_leaves h job (source_of (in_flight h)) (job_left (page_limit s) h),
       failed_leaves h job (source_of (in_flight h))
-          (job_left s.limits.page h),
+          (job_left (page_limit s) h),
     ) is
 accepted_leaves s h event own is = one_leaves own (accepted s h event ∷ []) (refl, tt) is
 

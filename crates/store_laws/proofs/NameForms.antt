@@ -42,7 +42,8 @@ from_each : (test : ℕ × ℕ → Bool) (from : ℕ) (text : List ℕ) → ((k 
     → list_all test (enumerate_from from text) ≡ true
 from_each test from [] each = refl
 from_each test from (byte ∷ text) each =
-    join (test (from, byte)) (list_all test (enumerate_from (from + 1) text)) (ap (λ (place : ℕ). test (place, byte)) (sym (none from)) ∙ each zero (omega arith))
+    join (test (from, byte)) (list_all test (enumerate_from (from + 1) text))
+    (ap (λ (place : ℕ). test (place, byte)) (sym (none from)) ∙ each zero (omega arith))
     (from_each test (from + 1) text (λ k within.
     let same : from + 1 + k ≡ from + suc k = omega arith in
     ap (λ (place : ℕ). test (place, get_or text k 0)) same ∙ each (suc k) (omega arith)))

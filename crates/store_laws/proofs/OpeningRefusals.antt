@@ -26,7 +26,7 @@ use Rattle.blob_model.specs.Own.{blob_at}
 use Rattle.blob_model.specs.Readers.{OpenReader, readers}
 use Rattle.blob_model.specs.Refusals.{fetch_refusals, reader_refusals, refusal}
 use Rattle.blob_model.specs.Renderers.{is_alive, origin_of}
-use Rattle.blob_model.specs.Session.{Session}
+use Rattle.blob_model.specs.Session.{Session, page_limit}
 use Rattle.blob_model.specs.Standing.{is_broken as was_broken}
 use Rattle.store_laws.specs.Apart.{AreUrlsApart}
 use Rattle.store_laws.specs.LineLaws.{handle_refusal}
@@ -79,12 +79,12 @@ module _ (s : Session) (h : History) (stands : ℕ → Bool) (parts : Parts) (to
       → first_that (reader_refusals s h reader name off len) ≡ opening_refusal reader entry off len parts.readers
   range_known reader name off len entry at =
       ap (λ (found : Option OpenReader).
-      first_that (range_cases reader off len found (was_broken h name) (size_in (builds s.limits.page h) name) (length (readers s.limits.page h))))
+      first_that (range_cases reader off len found (was_broken h name) (size_in (builds (page_limit s) h) name) (length (readers (page_limit s) h))))
       (sym (between.tables.readers_stand.each reader.0))
-      ∙ ap (λ (b : Bool). first_that (range_cases reader off len (open_at reader.0 parts.readers) b (size_in (builds s.limits.page h) name)
-      (length (readers s.limits.page h)))) (sym (broken_told s h stands parts told table between name entry at))
+      ∙ ap (λ (b : Bool). first_that (range_cases reader off len (open_at reader.0 parts.readers) b (size_in (builds (page_limit s) h) name)
+      (length (readers (page_limit s) h)))) (sym (broken_told s h stands parts told table between name entry at))
       ∙ ap (λ (size : ℕ). first_that (range_cases reader off len (open_at reader.0 parts.readers) (is_broken entry.status) size
-      (length (readers s.limits.page h)))) (sym (size_told s h stands parts told table between name entry at))
+      (length (readers (page_limit s) h)))) (sym (size_told s h stands parts told table between name entry at))
       ∙ ap (λ (n : ℕ). first_that (range_cases reader off len (open_at reader.0 parts.readers) (is_broken entry.status) entry.size n))
       (sym between.tables.readers_stand.many)
       ∙ range_tests reader entry off len parts.readers

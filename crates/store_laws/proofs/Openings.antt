@@ -20,7 +20,7 @@ use Rattle.blob_model.specs.Entries.{Entry as UrlEntry}
 use Rattle.blob_model.specs.History.{History, heard}
 use Rattle.blob_model.specs.Readers.{OpenReader, fetched, opened, range_end, readers}
 use Rattle.blob_model.specs.Renderers.{origin_of}
-use Rattle.blob_model.specs.Session.{Session}
+use Rattle.blob_model.specs.Session.{Session, page_limit}
 use Rattle.blob_model.specs.Standing.{is_broken as was_broken}
 use Rattle.store_laws.specs.Apart.{AreUrlsApart}
 use Rattle.store_laws.specs.LineLaws.{counted, AreUnmarked}
@@ -61,7 +61,7 @@ module _ (s : Session) (h : History) (stands : ℕ → Bool) (parts : Parts) (to
     (unmarked : AreUnmarked parts.book.entries) (between : Between s h stands parts told table) where
   -- the reader that comes is the one that the history opens
   opened_so : (renderer : RendererId) (reader : ReaderId) (name off : ℕ) (len : Option ℕ) (entry : Entry) → entry_of parts.book name ≡ Some entry
-      → reader_on renderer reader name entry off len ≡ opened s.limits.page h renderer.0 reader.0 name off len
+      → reader_on renderer reader name entry off len ≡ opened (page_limit s) h renderer.0 reader.0 name off len
   opened_so renderer reader name off len entry at =
       ap (λ (b : Bool). with_end (cond b off (range_end entry.size off len))) (broken_told s h stands parts told table between name entry at)
       ∙ ap (λ (size : ℕ). with_end (cond (was_broken h name) off (range_end size off len))) (size_told s h stands parts told table between name entry at)
@@ -82,8 +82,8 @@ module _ (s : Session) (h : History) (stands : ℕ → Bool) (parts : Parts) (to
         renderers = between.tables.renderers;
         urls_stand = between.tables.urls_stand;
         files_stand = between.tables.files_stand;
-        readers_stand = reader_comes (readers s.limits.page h) parts.readers open_readers between.tables.readers_stand
-            (opened s.limits.page h renderer.0 reader.0 name off len) free
+        readers_stand = reader_comes (readers (page_limit s) h) parts.readers open_readers between.tables.readers_stand
+            (opened (page_limit s) h renderer.0 reader.0 name off len) free
             (subst (λ (one : OpenReader). ReaderComes reader.0 one parts.readers open_readers) (opened_so renderer reader name off len entry at) comes);
       }) refl)
 
@@ -103,15 +103,15 @@ module _ (s : Session) (h : History) (stands : ℕ → Bool) (parts : Parts) (to
         readers_stand = by (resolved h renderer.0 text) (sym (led_so s h stands parts told table between apart renderer.0 text) ∙ leads);
       }) refl)
     where
-      stood : (blob : ℕ) → blob ≡ name → ReadersStand (readers s.limits.page h ++ opened s.limits.page h renderer.0 reader.0 blob off len ∷ []) open_readers
+      stood : (blob : ℕ) → blob ≡ name → ReadersStand (readers (page_limit s) h ++ opened (page_limit s) h renderer.0 reader.0 blob off len ∷ []) open_readers
       stood blob same =
-          reader_comes (readers s.limits.page h) parts.readers open_readers between.tables.readers_stand
-          (opened s.limits.page h renderer.0 reader.0 blob off len) free
+          reader_comes (readers (page_limit s) h) parts.readers open_readers between.tables.readers_stand
+          (opened (page_limit s) h renderer.0 reader.0 blob off len) free
           (subst (λ (one : OpenReader). ReaderComes reader.0 one parts.readers open_readers)
-          (opened_so renderer reader name off len entry at ∙ ap (λ (n : ℕ). opened s.limits.page h renderer.0 reader.0 n off len) (sym same)) comes)
+          (opened_so renderer reader name off len entry at ∙ ap (λ (n : ℕ). opened (page_limit s) h renderer.0 reader.0 n off len) (sym same)) comes)
 
       by : (found : Option UrlEntry) → option_map (λ (one : UrlEntry). one.blob) found ≡ Some name
-          → ReadersStand (readers s.limits.page h ++ fetched s.limits.page h renderer.0 reader.0 found off len) open_readers
+          → ReadersStand (readers (page_limit s) h ++ fetched (page_limit s) h renderer.0 reader.0 found off len) open_readers
       by None is = absurd (cc is)
       by (Some one) is = let same : one.blob ≡ name = cc in stood one.blob same
 

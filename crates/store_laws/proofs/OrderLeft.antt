@@ -15,7 +15,7 @@ use Rattle.blob_model.specs.Jobs.{is_in_job}
 use Rattle.blob_model.specs.Live.{is_live}
 use Rattle.blob_model.specs.Pages.{is_memory, place_in}
 use Rattle.blob_model.specs.Pieces.{Piece, pieces}
-use Rattle.blob_model.specs.Session.{Session}
+use Rattle.blob_model.specs.Session.{Session, page_limit}
 use Rattle.blob_model.specs.Standing.{ended, is_done, is_done_status, is_unfinished}
 use Rattle.blob_model.specs.Victims.{last_uses, with_length}
 use Rattle.blob_model.proofs.Lists.{false_true}
@@ -217,16 +217,16 @@ module _ (s : Session) (h : History) (stands now : ℕ → Bool) (shares later :
   g = after_drops s h
 
   abbrev page : ℕ
-  page = s.limits.page
+  page = page_limit s
 
   abbrev dropped_list : List Build
-  dropped_list = filter (λ (build : Build). is_unfinished h build.name && not (is_live s.limits.page h build.name)) (reverse (builds s.limits.page h))
+  dropped_list = filter (λ (build : Build). is_unfinished h build.name && not (is_live (page_limit s) h build.name)) (reverse (builds (page_limit s) h))
 
   abbrev stays_out : ℕ → Bool
   stays_out n = not (list_any (is_of n) freed)
 
   abbrev in_memory_at : History → Piece → Bool
-  in_memory_at one piece = is_memory (place_in one (builds s.limits.page one) piece)
+  in_memory_at one piece = is_memory (place_in one (builds (page_limit s) one) piece)
 
   abbrev can_page : History → Piece → Bool
   can_page one piece = is_done one piece.blob && not (is_in_job one piece.number)
@@ -237,39 +237,39 @@ module _ (s : Session) (h : History) (stands now : ℕ → Bool) (shares later :
   same_job : (n : ℕ) → is_in_job g n ≡ is_in_job h n
   same_job n = drops_keep (λ (one : History). is_in_job one n) (λ one name. refl) h dropped_list
 
-  same_pieces : pieces s.limits.page g ≡ pieces s.limits.page h
-  same_pieces = drops_keep (λ (one : History). pieces s.limits.page one) (λ one name. refl) h dropped_list
+  same_pieces : pieces (page_limit s) g ≡ pieces (page_limit s) h
+  same_pieces = drops_keep (λ (one : History). pieces (page_limit s) one) (λ one name. refl) h dropped_list
 
   same_uses : last_uses s.limits g ≡ last_uses s.limits h
   same_uses = drops_keep (λ (one : History). last_uses s.limits one) (λ one name. refl) h dropped_list
 
   same_done : (name : ℕ) → is_done g name ≡ is_done h name
-  same_done name = drops_do s h (reverse (builds s.limits.page h)) name
+  same_done name = drops_do s h (reverse (builds (page_limit s) h)) name
 
   same_page : can_page g ≡ can_page h
   same_page = λ i piece. same_done piece.blob i && not (same_job piece.number i)
 
   held_left : (piece : Piece) → can_page h piece ≡ true
-      → is_held (builds s.limits.page g) later rows_now piece ≡ (is_held (builds s.limits.page h) shares rows piece && stays_out piece.number)
+      → is_held (builds (page_limit s) g) later rows_now piece ≡ (is_held (builds (page_limit s) h) shares rows piece && stays_out piece.number)
   held_left piece pages =
       let done : is_done h piece.blob ≡ true = (and_parts (is_done h piece.blob) (not (is_in_job h piece.number)) pages).0 in
-      let out = not_gathered s h stands (builds s.limits.page h) rows rowed piece.blob (done_over h piece.blob done) in
+      let out = not_gathered s h stands (builds (page_limit s) h) rows rowed piece.blob (done_over h piece.blob done) in
       let out_now =
-      not_gathered s g now (builds s.limits.page g) rows_now rowed_now piece.blob (done_over g piece.blob (same_done piece.blob ∙ done)) in
-      or_none (holds_piece later piece.number) (is_gathered (builds s.limits.page g) rows_now piece.blob) out_now
+      not_gathered s g now (builds (page_limit s) g) rows_now rowed_now piece.blob (done_over g piece.blob (same_done piece.blob ∙ done)) in
+      or_none (holds_piece later piece.number) (is_gathered (builds (page_limit s) g) rows_now piece.blob) out_now
       ∙ holds_any piece.number later
       ∙ sym (left_in (is_of piece.number) piece.number (number_of_piece piece.number) shares later freed apart goes)
       ∙ ap (λ (b : Bool). b && stays_out piece.number)
-      (sym (holds_any piece.number shares) ∙ sym (or_none (holds_piece shares piece.number) (is_gathered (builds s.limits.page h) rows piece.blob) out))
+      (sym (holds_any piece.number shares) ∙ sym (or_none (holds_piece shares piece.number) (is_gathered (builds (page_limit s) h) rows piece.blob) out))
 
   abbrev before : List Piece
-  before = pageable_of s.limits.page h (held_pieces s.limits.page h shares rows)
+  before = pageable_of (page_limit s) h (held_pieces (page_limit s) h shares rows)
 
-  pageable_left : pageable_of s.limits.page g (held_pieces s.limits.page g later rows_now) ≡ passing stays_out before
+  pageable_left : pageable_of (page_limit s) g (held_pieces (page_limit s) g later rows_now) ≡ passing stays_out before
   pageable_left =
-      (λ i. filter (same_page i) (filter (same_memory i) (filter (is_held (builds s.limits.page g) later rows_now) (same_pieces i))))
-      ∙ passing_left (is_held (builds s.limits.page h) shares rows) (is_held (builds s.limits.page g) later rows_now) (in_memory_at h) (can_page h)
-      (λ (piece : Piece). stays_out piece.number) (pieces s.limits.page h) held_left
+      (λ i. filter (same_page i) (filter (same_memory i) (filter (is_held (builds (page_limit s) g) later rows_now) (same_pieces i))))
+      ∙ passing_left (is_held (builds (page_limit s) h) shares rows) (is_held (builds (page_limit s) g) later rows_now) (in_memory_at h) (can_page h)
+      (λ (piece : Piece). stays_out piece.number) (pieces (page_limit s) h) held_left
 
   order_left : (order : List (ℕ × ℕ)) → order ≡ order_of s h shares rows → fold left_by order freed ≡ order_of s g later rows_now
   order_left order is =

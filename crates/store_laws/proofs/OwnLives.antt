@@ -9,7 +9,7 @@ use Rattle.session_script.specs.declared.event.Part.{Part}
 use Rattle.answer_text.specs.declared.answer.Answer.{Answer}
 use Rattle.answer_text.specs.declared.answer.Answer.TheVariants as answers
 use Rattle.answer_text.specs.declared.refusal.Refusal.{Refusal}
-use Rattle.blob_model.specs.Session.{Session}
+use Rattle.blob_model.specs.Session.{Session, page_limit}
 use Rattle.blob_model.specs.History.{History, heard, refused, said, heard_first, said_all, after}
 use Rattle.blob_model.specs.Builds.{Build, builds, slice_parts}
 use Rattle.blob_model.specs.Handles.{count}
@@ -69,39 +69,39 @@ said_lives page h (answer ∷ list) all name e = live_shrinks page h (said h ans
 
 first_lives : (s : Session) (h : History) (event : Event) (answer : Answer) → HoldersSpawned h → refusal s h event ≡ None → is_build event ≡ false
     → is_plain answer ≡ true
-    → (name : ℕ) → is_live s.limits.page (heard_first h event answer) name ≡ true → is_live s.limits.page h name ≡ true
-first_lives s h event (answers.Refused why) holders accepted other plain name e = live_shrinks s.limits.page h (refused h event why)
-    (refused_shrinks s.limits.page h event why) name e
-first_lives s h event answer holders accepted other plain name e = live_shrinks s.limits.page h (heard h event answer)
+    → (name : ℕ) → is_live (page_limit s) (heard_first h event answer) name ≡ true → is_live (page_limit s) h name ≡ true
+first_lives s h event (answers.Refused why) holders accepted other plain name e = live_shrinks (page_limit s) h (refused h event why)
+    (refused_shrinks (page_limit s) h event why) name e
+first_lives s h event answer holders accepted other plain name e = live_shrinks (page_limit s) h (heard h event answer)
     (plain_heard s h event answer holders accepted other plain) name e
 
 plain_lives : (s : Session) (h : History) (event : Event) (own : List Answer) → HoldersSpawned h → refusal s h event ≡ None → is_build event ≡ false
     → AllPlain own
-    → (name : ℕ) → is_live s.limits.page (after h event own) name ≡ true → is_live s.limits.page h name ≡ true
+    → (name : ℕ) → is_live (page_limit s) (after h event own) name ≡ true → is_live (page_limit s) h name ≡ true
 plain_lives s h event [] holders accepted other all name e = e
 plain_lives s h event (answer ∷ more) holders accepted other all name e =
-    first_lives s h event answer holders accepted other all.0 name (said_lives s.limits.page (heard_first h event answer) more all.1 name e)
+    first_lives s h event answer holders accepted other all.0 name (said_lives (page_limit s) (heard_first h event answer) more all.1 name e)
 
 module _ (s : Session) (h : History) (event : Event) (renderer : RendererId) (built : ℕ) (kind : List ℕ) (parts : List Part) (bounded : Bounded s h)
-    (fresh : named built (builds s.limits.page h) ≡ false)
-    (blobs : (plan : Answer) → plan ≡ build_answer s h renderer.0 built parts → builds s.limits.page
-    (heard h event plan) ≡ builds s.limits.page h ++ new_build s h renderer.0 built kind parts ∷ [])
-    (roots : (plan : Answer) (n : ℕ) → is_rooted s.limits.page (heard h event plan) n ≡ true → (is_rooted s.limits.page h n ≡ true) ⊎ ((n == built) ≡ true))
+    (fresh : named built (builds (page_limit s) h) ≡ false)
+    (blobs : (plan : Answer) → plan ≡ build_answer s h renderer.0 built parts → builds (page_limit s)
+    (heard h event plan) ≡ builds (page_limit s) h ++ new_build s h renderer.0 built kind parts ∷ [])
+    (roots : (plan : Answer) (n : ℕ) → is_rooted (page_limit s) (heard h event plan) n ≡ true → (is_rooted (page_limit s) h n ≡ true) ⊎ ((n == built) ≡ true))
     (told : (status : Option Status) (name : ℕ) → is_built_by event (build_answer_by s h built parts status ∷ []) name ≡ (built == name)) where
   build_lives : (own : List Answer) → own ≡ build_answer s h renderer.0 built parts ∷ [] → (name : ℕ)
-      → is_live s.limits.page (after h event own) name ≡ true → stood s.limits.page h event own name ≡ true
+      → is_live (page_limit s) (after h event own) name ≡ true → stood (page_limit s) h event own name ≡ true
   build_lives own e name lives =
       let status = line_status s h renderer.0 built parts in
       let g = heard h event (build_answer s h renderer.0 built parts) in
       let x = new_build s h renderer.0 built kind parts in
-      let adds : Adds s.limits.page h g x = adds_by s h event renderer.0 built kind parts bounded.kept bounded.holders fresh blobs roots status refl in
-      let there : is_live s.limits.page g name ≡ true =
-      subst (λ (now : History). is_live s.limits.page now name ≡ true) (ap (after h event) e ∙ planned_first s h renderer.0 built event parts status) lives in
+      let adds : Adds (page_limit s) h g x = adds_by s h event renderer.0 built kind parts bounded.kept bounded.holders fresh blobs roots status refl in
+      let there : is_live (page_limit s) g name ≡ true =
+      subst (λ (now : History). is_live (page_limit s) now name ≡ true) (ap (after h event) e ∙ planned_first s h renderer.0 built event parts status) lives in
       let by : is_built_by event own name ≡ (built == name) = ap (λ (list : List Answer). is_built_by event list name) e ∙ told status name in
       ⊎_elim
-      (λ (new : (built == name) ≡ true). or_first (is_built_by event own name) (is_live s.limits.page h name) (by ∙ new))
-      (λ (old : is_live s.limits.page h name ≡ true). or_second (is_built_by event own name) (is_live s.limits.page h name) old)
-      (live_or s.limits.page h g x adds (λ (build : Build). build.name == name) there)
+      (λ (new : (built == name) ≡ true). or_first (is_built_by event own name) (is_live (page_limit s) h name) (by ∙ new))
+      (λ (old : is_live (page_limit s) h name ≡ true). or_second (is_built_by event own name) (is_live (page_limit s) h name) old)
+      (live_or (page_limit s) h g x adds (λ (build : Build). build.name == name) there)
 
 told_build : (s : Session) (h : History) (renderer : RendererId) (built : ℕ) (kind : List ℕ) (parts : List Part) (status : Option Status) (name : ℕ)
     → is_built_by (events.Build renderer built kind parts) (build_answer_by s h built parts status ∷ []) name ≡ (built == name)
@@ -115,39 +115,39 @@ told_slice s h renderer built source from to kind parts None name = refl
 told_slice s h renderer built source from to kind parts (Some status) name = refl
 
 accepted_lives : (s : Session) (h : History) (event : Event) (own : List Answer) → Bounded s h → refusal s h event ≡ None → IsAccepted s h event own
-    → (name : ℕ) → is_live s.limits.page (after h event own) name ≡ true → stood s.limits.page h event own name ≡ true
+    → (name : ℕ) → is_live (page_limit s) (after h event own) name ≡ true → stood (page_limit s) h event own name ≡ true
 accepted_lives s h (events.Build renderer built kind parts) own bounded accepted one name e =
     let event = events.Build renderer built kind parts in
-    build_lives s h (events.Build renderer built kind parts) renderer built kind parts bounded (sym (found_named (builds s.limits.page h) built)
+    build_lives s h (events.Build renderer built kind parts) renderer built kind parts bounded (sym (found_named (builds (page_limit s) h) built)
     ∙ (tests_fail s h (events.Build renderer built kind parts) accepted).1.0)
-    (λ plan f. ap (λ (a : Answer). builds s.limits.page (heard h (events.Build renderer built kind parts) a)) f)
+    (λ plan f. ap (λ (a : Answer). builds (page_limit s) (heard h (events.Build renderer built kind parts) a)) f)
     (λ plan n f. build_roots s h (heard h (events.Build renderer built kind parts) plan) renderer.0 built bounded.holders (λ holder m has. one_case
     ((renderer.0 == holder) && (built == m)) (count h holder m) has) n
     (λ held. let who = holder_of (heard h (events.Build renderer built kind parts) plan) n held in (who.0.number, who.1)) f)
     (told_build s h renderer built kind parts) own (only_one own (build_answer s h renderer.0 built parts ∷ []) one) name e
 accepted_lives s h (events.Slice renderer built source from to kind) own bounded accepted one name e =
-    let parts = slice_parts (builds s.limits.page h) source from to in
+    let parts = slice_parts (builds (page_limit s) h) source from to in
     build_lives s h (events.Slice renderer built source from to kind) renderer built kind parts bounded
-    (sym (found_named (builds s.limits.page h) built) ∙ (tests_fail s h (events.Slice renderer built source from to kind) accepted).1.0)
-    (λ plan f. ap (λ (a : Answer). builds s.limits.page (heard h (events.Slice renderer built source from to kind) a)) f)
+    (sym (found_named (builds (page_limit s) h) built) ∙ (tests_fail s h (events.Slice renderer built source from to kind) accepted).1.0)
+    (λ plan f. ap (λ (a : Answer). builds (page_limit s) (heard h (events.Slice renderer built source from to kind) a)) f)
     (λ plan n f. build_roots s h (heard h (events.Slice renderer built source from to kind) plan) renderer.0 built bounded.holders
     (λ holder m has. one_case ((renderer.0 == holder) && (built == m)) (count h holder m) has) n
     (λ held. let who = holder_of (heard h (events.Slice renderer built source from to kind) plan) n held in (who.0.number, who.1)) f)
     (told_slice s h renderer built source from to kind parts) own (only_one own (build_answer s h renderer.0 built parts ∷ []) one) name e
 accepted_lives s h event own bounded accepted one name e =
-    or_second (is_built_by event own name) (is_live s.limits.page h name) (plain_lives s h event own bounded.holders accepted refl
+    or_second (is_built_by event own name) (is_live (page_limit s) h name) (plain_lives s h event own bounded.holders accepted refl
     (line_plain s h event own refl one) name e)
 
 own_by_lives : (s : Session) (h : History) (event : Event) (why : Option Refusal) (own : List Answer) → refusal s h event ≡ why → Bounded s h
     → IsOwnBy s h event why own
-    → (name : ℕ) → is_live s.limits.page (after h event own) name ≡ true → stood s.limits.page h event own name ≡ true
+    → (name : ℕ) → is_live (page_limit s) (after h event own) name ≡ true → stood (page_limit s) h event own name ≡ true
 own_by_lives s h event (Some why) own at bounded is name e =
-    let there : is_live s.limits.page (refused h event why) name ≡ true = subst (λ (list : List Answer). is_live s.limits.page
+    let there : is_live (page_limit s) (refused h event why) name ≡ true = subst (λ (list : List Answer). is_live (page_limit s)
     (after h event list) name ≡ true) is e in
-    or_second (is_built_by event own name) (is_live s.limits.page h name) (live_shrinks s.limits.page h (refused h event why)
-    (refused_shrinks s.limits.page h event why) name there)
+    or_second (is_built_by event own name) (is_live (page_limit s) h name) (live_shrinks (page_limit s) h (refused h event why)
+    (refused_shrinks (page_limit s) h event why) name there)
 own_by_lives s h event None own at bounded is name e = accepted_lives s h event own bounded at is name e
 
 pub own_lives : (s : Session) (h : History) (event : Event) (own : List Answer) → Bounded s h → IsOwn s h event own
-    → (name : ℕ) → is_live s.limits.page (after h event own) name ≡ true → stood s.limits.page h event own name ≡ true
+    → (name : ℕ) → is_live (page_limit s) (after h event own) name ≡ true → stood (page_limit s) h event own name ≡ true
 own_lives s h event own bounded is name e = own_by_lives s h event (refusal s h event) own refl bounded is name e

@@ -21,7 +21,7 @@ use Rattle.page_files.specs.Pieces.{bytes_of as held_bytes}
 use Rattle.quota_queue.specs.Queue.{Queue}
 use Rattle.blob_words.specs.declared.plan.Plan.{Plan}
 use Rattle.blob_words.specs.declared.plan.Plan.TheVariants as plans
-use Rattle.blob_model.specs.Session.{Session}
+use Rattle.blob_model.specs.Session.{Session, page_limit}
 use Rattle.blob_model.specs.History.{History}
 use Rattle.blob_model.specs.Builds.{Build, builds, build_in}
 use Rattle.blob_model.specs.Jobs.{Job, in_flight, is_in_job}
@@ -134,22 +134,22 @@ same_charge Asked = refl
 
 module _ (s : Session) (h : History) (stands : ℕ → Bool) (book : Book) (shares : List (Option Share)) (rows : List (Option Row)) (quota : Queue)
     (files : Files) (order : List (ℕ × ℕ))
-    (contents : ContentsStand s h stands book shares rows quota files order) (exact : AreExact s h stands) (rest : IsAtRest s.limits.page h)
+    (contents : ContentsStand s h stands book shares rows quota files order) (exact : AreExact s h stands) (rest : IsAtRest (page_limit s) h)
     (counted : IsCounted book shares rows)
     (apart : AreGatheredApart s h shares rows) (paged : ArePaged s h shares rows) where
   abbrev blobs : List Build
-  blobs = builds s.limits.page h
+  blobs = builds (page_limit s) h
 
   abbrev all : List Piece
-  all = pieces s.limits.page h
+  all = pieces (page_limit s) h
 
   abbrev keeps : Piece → Bool
   keeps piece = is_held blobs shares rows piece
 
   abbrev numbers_found : AllByRecursion (λ (piece : Piece). FoundIn all piece.number piece) all
-  numbers_found = all_by_number 0 all (pieces_numbered s.limits.page 0 blobs)
+  numbers_found = all_by_number 0 all (pieces_numbered (page_limit s) 0 blobs)
 
-  reached_are : filter keeps all ≡ reached s.limits.page h
+  reached_are : filter keeps all ≡ reached (page_limit s) h
   reached_are = held_reached s h stands book shares rows quota files order contents exact rest counted
 
   some_same : (a b : ℕ) → Some a ≡ Some b → a ≡ b
@@ -189,7 +189,7 @@ module _ (s : Session) (h : History) (stands : ℕ → Bool) (book : Book) (shar
   -- ---- the job in flight
 
   job_among : (number : ℕ) → is_in_job h number ≡ true → list_any (λ (piece : Piece). piece.number == number)
-      (reached s.limits.page h) ≡ holds_piece shares number
+      (reached (page_limit s) h) ≡ holds_piece shares number
   job_among number named =
       ap (list_any (λ (piece : Piece). piece.number == number)) (sym reached_are)
       ∙ iff_true (list_any (λ (piece : Piece). piece.number == number) (filter keeps all)) (holds_piece shares number)
@@ -210,13 +210,13 @@ module _ (s : Session) (h : History) (stands : ℕ → Bool) (book : Book) (shar
 
   filter_named : (job : Job) → in_flight h ≡ Some job → (list : List ℕ) → ((number : ℕ) → list_any (λ (each : ℕ). each == number) list ≡ true
       → list_any (λ (each : ℕ). each == number) job.pieces ≡ true)
-      → filter (λ (number : ℕ). list_any (λ (piece : Piece). piece.number == number) (reached s.limits.page h)) list ≡ filter (holds_piece shares) list
+      → filter (λ (number : ℕ). list_any (λ (piece : Piece). piece.number == number) (reached (page_limit s) h)) list ≡ filter (holds_piece shares) list
   filter_named job flying [] among = refl
   filter_named job flying (number ∷ list) among =
       ap
       (λ (b : Bool).
-      cond b (number ∷ filter (λ (each : ℕ). list_any (λ (piece : Piece). piece.number == each) (reached s.limits.page h)) list)
-      (filter (λ (each : ℕ). list_any (λ (piece : Piece). piece.number == each) (reached s.limits.page h)) list))
+      cond b (number ∷ filter (λ (each : ℕ). list_any (λ (piece : Piece). piece.number == each) (reached (page_limit s) h)) list)
+      (filter (λ (each : ℕ). list_any (λ (piece : Piece). piece.number == each) (reached (page_limit s) h)) list))
       (job_among number
       (ap (λ (o : Option Job). option_map_or (λ (one : Job). list_any (λ (named : ℕ). named == number) one.pieces) o false) flying
       ∙ among number (or_first (number == number) (list_any (λ (each : ℕ). each == number) list) (eq-eqb number number refl))))
@@ -231,12 +231,13 @@ module _ (s : Session) (h : History) (stands : ℕ → Bool) (book : Book) (shar
       let later = sum_lengths list each.1 in
       omega (arith, here, later, sum_by-cons (λ (one : Held). one.len) held list, sum_by-cons (length_in all) held.piece.0 (held_numbers list))
 
-  pub job_charged : held_bytes (left_of files.job) ≡ sum_by (length_in all) (job_left_in h (reached s.limits.page h))
-  job_charged = sum_lengths (left_of files.job) contents.page_files_stand.job_lengths ∙ ap (sum_by (length_in all)) (go files.job (in_flight h) refl contents.page_files_stand.job)
+  pub job_charged : held_bytes (left_of files.job) ≡ sum_by (length_in all) (job_left_in h (reached (page_limit s) h))
+  job_charged = sum_lengths (left_of files.job) contents.page_files_stand.job_lengths ∙ ap (sum_by (length_in all))
+      (go files.job (in_flight h) refl contents.page_files_stand.job)
     where
       go : (one : Option FlyingJob) (flying : Option Job) → in_flight h ≡ flying → option_map job_as one ≡ option_map (with_held (holds_piece shares)) flying
           → held_numbers (left_of one) ≡ option_map_or (λ (job : Job). filter (λ (number : ℕ). list_any (λ (piece : Piece). piece.number == number)
-          (reached s.limits.page h)) job.pieces) flying []
+          (reached (page_limit s) h)) job.pieces) flying []
       go None None at e = refl
       go None (Some job) at e = absurd (cc e)
       go (Some one) None at e = absurd (cc e)
@@ -277,7 +278,7 @@ module _ (s : Session) (h : History) (stands : ℕ → Bool) (book : Book) (shar
   pub record IsThere (page number : ℕ) : Type 0 where
     pub piece : Piece
     pub found : FoundIn all number piece
-    pub place_is : place s.limits.page h piece ≡ in_page page
+    pub place_is : place (page_limit s) h piece ≡ in_page page
     pub held : holds_piece shares number ≡ true
     pub unasked : list_any (λ (each : ℕ). each == page) (asked h) ≡ false
 
@@ -291,7 +292,7 @@ module _ (s : Session) (h : History) (stands : ℕ → Bool) (book : Book) (shar
       (subst (λ (o : Option Item). IfSome o (IsUnasked (asked h))) one.2 (paged.unasked one.0)) one.3
     where
       found_by : (slot : ℕ) → piece_at shares slot ≡ Some number → (o : Option Piece) (P : Piece → Type 0) → piece_in all number ≡ o → IsSomeAnd o P
-          → ((piece : Piece) → P piece → place s.limits.page h piece ≡ in_page page)
+          → ((piece : Piece) → P piece → place (page_limit s) h piece ≡ in_page page)
           → list_any (λ (each : ℕ). each == page) (asked h) ≡ false → IsThere page number
       found_by slot at None P is some says free = absurd some
       found_by slot at (Some piece) P is some says free =
@@ -329,7 +330,7 @@ module _ (s : Session) (h : History) (stands : ℕ → Bool) (book : Book) (shar
   same_page m n e = cc
 
   -- a held piece whose place is a page file is there
-  held_there : (n : ℕ) (piece : Piece) → FoundIn all piece.number piece → holds_piece shares piece.number ≡ true → place s.limits.page h piece ≡ in_page n
+  held_there : (n : ℕ) (piece : Piece) → FoundIn all piece.number piece → holds_piece shares piece.number ≡ true → place (page_limit s) h piece ≡ in_page n
       → holds_paged shares n piece.number ≡ true
   held_there n piece found e at =
       let slot = slot_of piece.number shares e in
@@ -376,7 +377,7 @@ module _ (s : Session) (h : History) (stands : ℕ → Bool) (book : Book) (shar
       go (Some (plans.TooMany what)) f = in_memory_not n f
 
   -- a piece whose place is a page file is listed there
-  listed : (n : ℕ) (list : List ℕ) (piece : Piece) → get_or (writes h) n None ≡ Some list → place s.limits.page h piece ≡ in_page n
+  listed : (n : ℕ) (list : List ℕ) (piece : Piece) → get_or (writes h) n None ≡ Some list → place (page_limit s) h piece ≡ in_page n
       → list_any (λ (each : ℕ). each == piece.number) list ≡ true
   listed n list piece written at = go (page_with (pages h) piece.number) refl at
     where
@@ -412,12 +413,12 @@ module _ (s : Session) (h : History) (stands : ℕ → Bool) (book : Book) (shar
   is_asked n = list_any (λ (each : ℕ). each == n) (asked h)
 
   abbrev in_this : ℕ → Piece → Bool
-  in_this n piece = is_page n (place s.limits.page h piece)
+  in_this n piece = is_page n (place (page_limit s) h piece)
 
   page_has : (n : ℕ) (list : List ℕ) → get_or (writes h) n None ≡ Some list
-      → (not (is_asked n) && list_any (holds_paged shares n) list) ≡ list_any (in_this n) (reached s.limits.page h)
+      → (not (is_asked n) && list_any (holds_paged shares n) list) ≡ list_any (in_this n) (reached (page_limit s) h)
   page_has n list written =
-      iff_true (not (is_asked n) && list_any (holds_paged shares n) list) (list_any (in_this n) (reached s.limits.page h))
+      iff_true (not (is_asked n) && list_any (holds_paged shares n) list) (list_any (in_this n) (reached (page_limit s) h))
       (λ e.
       let parts = and_parts (not (is_asked n)) (list_any (holds_paged shares n) list) e in
       let one = some_of (holds_paged shares n) list parts.1 in
@@ -436,7 +437,7 @@ module _ (s : Session) (h : History) (stands : ℕ → Bool) (book : Book) (shar
       (FoundIn all piece.number piece) × IsApart s h shares rows piece) all
       (λ piece one two. (one, two)) numbers_found apart)
       (λ piece facts_are kept is.
-      let at = page_place n (place s.limits.page h piece) is in
+      let at = page_place n (place (page_limit s) h piece) is in
       ⊎_elim
       (λ (held : holds_piece shares piece.number ≡ true).
       let here = held_there n piece facts_are.0 held at in
@@ -449,7 +450,7 @@ module _ (s : Session) (h : History) (stands : ℕ → Bool) (book : Book) (shar
   -- ---- all page files
 
   abbrev reaches_in : Page → Bool
-  reaches_in page = nat_lt 0 (length (in_page_of h blobs page (reached s.limits.page h)))
+  reaches_in page = nat_lt 0 (length (in_page_of h blobs page (reached (page_limit s) h)))
 
   sheet_has : (a : Bool) (size : ℕ) (held : List (ℕ × ℕ × ℕ)) (b : Bool) → has_some held ≡ b → sheet_held (cond a gone (whole size held)) ≡ (not a && b)
   sheet_has true size held b e = refl
@@ -510,7 +511,7 @@ module _ (s : Session) (h : History) (stands : ℕ → Bool) (book : Book) (shar
       let there_now : List (ℕ × ℕ × ℕ) = placed_from all (holds_paged shares n) 0 numbers in
       let held_as : sheet_held (cond (is_asked n) gone (whole size there_now)) ≡ reaches_in file =
       sheet_has (is_asked n) size there_now (list_any (holds_paged shares n) numbers) (placed_some all (holds_paged shares n) 0 numbers)
-      ∙ page_has n numbers written ∙ sym (some_length (in_this n) (reached s.limits.page h)) in
+      ∙ page_has n numbers written ∙ sym (some_length (in_this n) (reached (page_limit s) h)) in
       one_more (reaches_in file) page list file (filter reaches_in (numbered_pages (n + 1) more)) (same_held page ∙ ap sheet_held is ∙ held_as)
       (same_charge page ∙ ap (λ (x : Sheet). cond (sheet_held x) (sheet_size x) 0) is ∙ sheet_costs (is_asked n) size there_now
       ∙ ap {B = ℕ} (λ (b : Bool). cond b size 0) held_as)
@@ -522,7 +523,7 @@ module _ (s : Session) (h : History) (stands : ℕ → Bool) (book : Book) (shar
       plain : n + 0 ≡ n
       plain = omega arith
 
-  pub disk_told : DiskIsTold s.limits.page h files
+  pub disk_told : DiskIsTold (page_limit s) h files
   disk_told =
       let charged = pages_charged 0 (writes h) files.pages (λ j. ap (λ (k : ℕ). get_or (writes h) k None) (nothing j)) contents.page_files_stand.sheets in
       let pages_are : sum_by (page_size all) (filter reaches_in (numbered_pages 0 (writes h))) ≡ sum_by (page_size all) (filter reaches_in (pages h)) =

@@ -11,7 +11,7 @@ use Rattle.blob_words.specs.declared.status.Status.TheVariants as statuses
 use Rattle.item_shares.specs.declared.shares.Share.{Share}
 use Rattle.blob_entries.specs.declared.entry.Entry.{Entry}
 use Rattle.blob_entries.specs.Statuses.{is_broken, is_pending}
-use Rattle.blob_model.specs.Session.{Session}
+use Rattle.blob_model.specs.Session.{Session, page_limit}
 use Rattle.blob_model.specs.History.{History}
 use Rattle.blob_model.specs.Builds.{Build, build_in}
 use Rattle.blob_model.specs.Live.{has_source, is_live}
@@ -42,7 +42,8 @@ pub record IsTold (s : Session) (h : History) (stands : ℕ → Bool) (pair : Bu
   pub outline_is : outline pair.1 ≡ outline_of s h pair.0
 
 module _ (s : Session) (h : History) (stands : ℕ → Bool) where
-  pub first_of : (build : Build) (list : List Build) (held : Option Entry) (entries : List (Option Entry)) → AreOutlined s h stands (build ∷ list) (held ∷ entries)
+  pub first_of : (build : Build) (list : List Build) (held : Option Entry) (entries : List (Option Entry)) → AreOutlined s h stands (build ∷ list)
+      (held ∷ entries)
       → option_map outline held ≡ outline_at s h stands build
   first_of build list held entries e = cc
 
@@ -173,17 +174,17 @@ pending_now s h build apart = go (ended h build.name) apart
 
 -- ---- sources stand before
 
-module _ (s : Session) (h : History) (stands : ℕ → Bool) (exact : (name : ℕ) → stands name ≡ is_live s.limits.page h name) (whole : List Build)
+module _ (s : Session) (h : History) (stands : ℕ → Bool) (exact : (name : ℕ) → stands name ≡ is_live (page_limit s) h name) (whole : List Build)
     (all : List Piece)
     (shares : List (Option Share)) (own : ℕ → List ℕ) (ends : (name : ℕ) → IfSome (ended h name) (λ (status : Status). is_pending status ≡ false)) where
   abbrev Sourced : Build → Type 0
   Sourced build =
-      is_live s.limits.page h build.name ≡ true → is_unfinished h build.name ≡ true → (source : ℕ) → has_source build source ≡ true
-      → (is_live s.limits.page h source ≡ true) × (is_broken_now h source ≡ false)
+      is_live (page_limit s) h build.name ≡ true → is_unfinished h build.name ≡ true → (source : ℕ) → has_source build source ≡ true
+      → (is_live (page_limit s) h source ≡ true) × (is_broken_now h source ≡ false)
 
   abbrev Knows : List Build → (ℕ → Bool) → Type 0
   Knows earlier known =
-      (name : ℕ) → named name earlier ≡ true → is_live s.limits.page h name ≡ true → is_broken_now h name ≡ false → known name ≡ true
+      (name : ℕ) → named name earlier ≡ true → is_live (page_limit s) h name ≡ true → is_broken_now h name ≡ false → known name ≡ true
 
   planned : (build : Build) → (is_some build.plan ≡ false → is_unfinished h build.name ≡ false) → is_unfinished h build.name ≡ true → is_some build.plan ≡ true
   planned build broke begun = go (is_some build.plan) refl
@@ -223,7 +224,7 @@ module _ (s : Session) (h : History) (stands : ℕ → Bool) (exact : (name : �
           (λ name there live whole.
           ⊎_elim (λ (old : named name earlier ≡ true). knows name old live whole)
           (λ (is : build.name ≡ name).
-          absurd (false_true (sym off ∙ exact build.name ∙ ap (is_live s.limits.page h) is ∙ live))) (before_last earlier build name there))
+          absurd (false_true (sym off ∙ exact build.name ∙ ap (is_live (page_limit s) h) is ∙ live))) (before_last earlier build name there))
 
       some : ((next : ℕ → Bool) → Knows (earlier ++ build ∷ []) next → AreClosed next (paired list entries)) → (entry : Entry)
           → IsTold s h stands (build, entry) → IsEntryFor whole all shares own build entry → AreClosed known ((build, entry) ∷ paired list entries)

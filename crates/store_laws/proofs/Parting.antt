@@ -40,7 +40,8 @@ own_join name from (suc a) b =
     ∙ ap (λ (cells : List Cell). sent name from ∷ cells) (own_join name (from + 1) a b)
     ∙ ap (λ (n : ℕ). own_cells name from n) long
 
-pub numbered_join : (name number : ℕ) (xs ys : List (ℕ × ℕ)) → numbered name number (xs ++ ys) ≡ numbered name number xs ++ numbered name (number + length xs) ys
+pub numbered_join : (name number : ℕ) (xs ys : List (ℕ × ℕ)) → numbered name number (xs ++ ys) ≡ numbered name number xs ++ numbered name (number + length xs)
+    ys
 numbered_join name number [] ys = let same : number + 0 ≡ number = omega arith in ap (λ (n : ℕ). numbered name n ys) (sym same)
 numbered_join name number (x ∷ xs) ys =
     let same : (number + 1) + length xs ≡ number + length (x ∷ xs) = omega arith in
@@ -72,7 +73,8 @@ module _ (builds : List Build) (all : List Piece) (shares : List (Option Share))
       let first : step_cells builds all shares (Own (piece_no number) span.1) ≡ own_cells name from span.1 =
       ap (λ (o : Option Piece). map (piece_cell o) (range_with_len 0 span.1)) found.0 ∙ piece-cells piece 0 span.1
       ∙ ap (λ (n : ℕ). own_cells name n span.1) at in
-      let more = own_made (number + 1) (from + span.1) (total - span.1) spans (subst (λ (n : ℕ). IsEndToEnd (from + span.1) spans n) (sym within) covers.2) found.1 in
+      let more = own_made (number + 1) (from + span.1) (total - span.1) spans (subst (λ (n : ℕ). IsEndToEnd (from + span.1) spans n) (sym within) covers.2)
+      found.1 in
       (λ i. first i ++ more i) ∙ own_join name from span.1 (total - span.1) ∙ ap (λ (n : ℕ). own_cells name from n) long
 
   -- a view of a whole item
@@ -84,7 +86,8 @@ module _ (builds : List Build) (all : List Piece) (shares : List (Option Share))
 
   module _ (page : ℕ) (sized : 0 < page) where
     -- an own part, and the parts behind it
-    own_part : (number from len : ℕ) (views : List View) (parts : List Part) → AreFound all (numbered name number (cut_spans page from len ++ piece_spans page (from + len) (own_lengths parts)))
+    own_part : (number from len : ℕ) (views : List View) (parts : List Part)
+        → AreFound all (numbered name number (cut_spans page from len ++ piece_spans page (from + len) (own_lengths parts)))
         → (AreFound all (numbered name (number + length (piece_lengths page len)) (piece_spans page (from + len) (own_lengths parts)))
         → recipe_cells builds all shares (recipe_of page (number + length (piece_lengths page len)) views parts) ≡ cells_of builds name (from + len) parts)
         → recipe_cells builds all shares (own_steps number (piece_lengths page len) ++ recipe_of page (number + length (piece_lengths page len)) views parts)
@@ -100,8 +103,10 @@ module _ (builds : List Build) (all : List Piece) (shares : List (Option Share))
         let first : recipe_cells builds all shares (own_steps number (piece_lengths page len)) ≡ own_cells name from len =
         ap (λ (lengths : List ℕ). recipe_cells builds all shares (own_steps number lengths)) (sym (lengths_cut page from len))
         ∙ own_made number from len (cut_spans page from len) (cut_cover page from len sized) mine in
-        let more = go (subst (λ (n : ℕ). AreFound all (numbered name (number + n) (piece_spans page (from + len) (own_lengths parts)))) (as_many page from len) rest) in
-        flat_map-append (step_cells builds all shares) (own_steps number (piece_lengths page len)) (recipe_of page (number + length (piece_lengths page len)) views parts)
+        let more = go (subst (λ (n : ℕ). AreFound all (numbered name (number + n) (piece_spans page (from + len) (own_lengths parts)))) (as_many page from len)
+        rest) in
+        flat_map-append (step_cells builds all shares) (own_steps number (piece_lengths page len))
+        (recipe_of page (number + length (piece_lengths page len)) views parts)
         ∙ (λ i. first i ++ more i)
 
     recipe_made : (number from : ℕ) (views : List View) (parts : List Part) → AreFound all (numbered name number (piece_spans page from (own_lengths parts)))

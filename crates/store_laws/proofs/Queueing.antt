@@ -20,7 +20,7 @@ use Rattle.blob_model.specs.History.{History}
 use Rattle.blob_model.specs.Live.{is_live}
 use Rattle.blob_model.specs.Order.{named}
 use Rattle.blob_model.specs.Parts.{own_bytes}
-use Rattle.blob_model.specs.Session.{Session}
+use Rattle.blob_model.specs.Session.{Session, page_limit}
 use Rattle.blob_model.specs.Settle.{drops}
 use Rattle.blob_model.specs.Standing.{is_unfinished, was_granted}
 use Rattle.blob_model.specs.Waits.{is_shared, is_waiting, waits}
@@ -174,10 +174,10 @@ module _ (s : Session) (h : History) (book : Book) (tell : Describes s h book) w
   g = after_drops s h
 
   abbrev alive : ℕ → Bool
-  alive = is_live s.limits.page h
+  alive = is_live (page_limit s) h
 
   abbrev list_now : List Build
-  list_now = builds s.limits.page h
+  list_now = builds (page_limit s) h
 
   -- whether the blob of a name is dropped, where there is one
   abbrev drops_it : ℕ → Bool
@@ -235,14 +235,14 @@ module _ (s : Session) (h : History) (book : Book) (tell : Describes s h book) w
       each_left list there.1 ends.1,
     )
 
-    waits_now : filter (λ (build : Build). not_among names build.name) (waits s.limits.page h) ≡ waits s.limits.page g
+    waits_now : filter (λ (build : Build). not_among names build.name) (waits (page_limit s) h) ≡ waits (page_limit s) g
     waits_now =
         filter_twice (is_waiting h) (λ (build : Build). not_among names build.name) list_now
         ∙ filter_members (λ (build : Build). is_waiting h build && not_among names build.name) (is_waiting g) list_now
         (each_left list_now (all_numbered (λ (build : Build). build.name) list_now) (all_over h alive list_now))
-        ∙ ap (filter (is_waiting g)) (sym (builds_all s.limits.page h (drops s h)))
+        ∙ ap (filter (is_waiting g)) (sym (builds_all (page_limit s) h (drops s h)))
 
 pub queue_let_go : QueueLetGo
 queue_let_go s h book waiting names tell is drop =
     ap (λ (list : List (ℕ × ℕ)). fold (λ (waiting : List (ℕ × ℕ)) (name : ℕ). without name waiting) list names) is
-    ∙ left_all names (map in_queue (waits s.limits.page h)) ∙ queued names (waits s.limits.page h) ∙ ap (map in_queue) (waits_now s h book tell names drop)
+    ∙ left_all names (map in_queue (waits (page_limit s) h)) ∙ queued names (waits (page_limit s) h) ∙ ap (map in_queue) (waits_now s h book tell names drop)

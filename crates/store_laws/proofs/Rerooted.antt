@@ -13,7 +13,7 @@ use Rattle.page_disk.specs.declared.change.Change.{Change}
 use Rattle.blob_model.specs.Builds.{Build, Cell, builds}
 use Rattle.blob_model.specs.History.{History}
 use Rattle.blob_model.specs.Pieces.{Piece, pieces}
-use Rattle.blob_model.specs.Session.{Session}
+use Rattle.blob_model.specs.Session.{Session, page_limit}
 use Rattle.registry_laws.specs.Agree.{Beside}
 use Rattle.store_laws.specs.Outlines.{outline, outlines, Outline, IsMarkedRight}
 use Rattle.store_laws.specs.Recipes.{EntryStands, StandsFor}
@@ -88,12 +88,12 @@ between_rerooted s h stands parts told table book same between = record {
     names = same.names ∙ between.contents.names;
     outlines_stand =
         sym (outlined_without book.entries) ∙ ap outlines same.entries ∙ outlined_without parts.book.entries ∙ between.contents.outlines_stand;
-    marks = beside_rerooted (IsMarkedRight s h) (mark_with s h) (builds s.limits.page h) parts.book.entries book.entries same.entries between.contents.marks;
+    marks = beside_rerooted (IsMarkedRight s h) (mark_with s h) (builds (page_limit s) h) parts.book.entries book.entries same.entries between.contents.marks;
     rows_stand = between.contents.rows_stand;
     items = between.contents.items;
     entries = record {
-      each = beside_rerooted (EntryStands (builds s.limits.page h) (pieces s.limits.page h) parts.shares (own_pieces s.limits.page h))
-          (entry_with (builds s.limits.page h) (pieces s.limits.page h) parts.shares (own_pieces s.limits.page h)) (builds s.limits.page h)
+      each = beside_rerooted (EntryStands (builds (page_limit s) h) (pieces (page_limit s) h) parts.shares (own_pieces (page_limit s) h))
+          (entry_with (builds (page_limit s) h) (pieces (page_limit s) h) parts.shares (own_pieces (page_limit s) h)) (builds (page_limit s) h)
           parts.book.entries book.entries same.entries between.contents.entries.each;
       written = between.contents.entries.written;
     };

@@ -8,7 +8,7 @@ use Rattle.blob_words.specs.declared.status.Status.TheVariants as statuses
 use Rattle.answer_text.specs.declared.answer.Answer.{Answer}
 use Rattle.answer_text.specs.declared.group.Group.{Group}
 use Rattle.blob_entries.specs.Statuses.{is_pending}
-use Rattle.blob_model.specs.Session.{Session}
+use Rattle.blob_model.specs.Session.{Session, page_limit}
 use Rattle.blob_model.specs.History.{History, history_from, said_all, start}
 use Rattle.blob_model.specs.Builds.{Build, builds}
 use Rattle.blob_model.specs.Legal.{IsLegalFrom}
@@ -60,7 +60,8 @@ both_of P Q R [] f p q = tt
 both_of P Q R (x ∷ xs) f p q = (f x p.0 q.0, both_of P Q R xs f p.1 q.1)
 
 -- where no ending is owed, none is of any blob
-pub each_ends : (s : Session) (h : History) (list : List Build) → endings_of s h list ≡ [] → AllByRecursion (λ (build : Build). ending_answers s h build ≡ []) list
+pub each_ends : (s : Session) (h : History) (list : List Build) → endings_of s h list ≡ [] → AllByRecursion (λ (build : Build). ending_answers s h build ≡ [])
+    list
 each_ends s h [] e = tt
 each_ends s h (build ∷ list) e =
     let parts = nil_parts (ending_answers s h build) (endings_of s (said_all h (ending_answers s h build)) list) e in
@@ -76,10 +77,10 @@ no_broken s h build none begun =
     go None at e = (none_applies (ending_tests s h build) at).1.1.0
     go (Some answer) at e = let bad : answer ∷ [] ≡ [] = sym (ap option_to_list at) ∙ e in absurd (cc bad)
 
-pub rests_when_settled : (s : Session) (groups : List Group) → IsLegalFrom s start groups → IsAtRest s.limits.page (history_from start groups)
+pub rests_when_settled : (s : Session) (groups : List Group) → IsLegalFrom s start groups → IsAtRest (page_limit s) (history_from start groups)
 rests_when_settled s groups legal =
     let h = history_from start groups in
-    let page = s.limits.page in
+    let page = (page_limit s) in
     let kept = kept_from s start groups (kept_start s) legal in
     let settled = all_empty (drops s ∷ endings s ∷ drops s ∷ removals s [] ∷ grants s ∷ page_jobs s ∷ compactions s ∷ []) h (settled_after s groups legal) in
     record {
@@ -87,28 +88,28 @@ rests_when_settled s groups legal =
       planned = kept.broke;
       ends = λ name. ends_apart (ended (history_from start groups) name) (ends_well s (history_from start groups) name (caused_from s groups legal));
       sources = both_of
-          (λ (build : Build). is_live s.limits.page (history_from start groups) build.name ≡ true
+          (λ (build : Build). is_live (page_limit s) (history_from start groups) build.name ≡ true
           → is_unfinished (history_from start groups) build.name ≡ true → (source : ℕ)
-          → has_source build source ≡ true → is_live s.limits.page (history_from start groups) source ≡ true)
+          → has_source build source ≡ true → is_live (page_limit s) (history_from start groups) source ≡ true)
           (λ (build : Build). ending_answers s (history_from start groups) build ≡ [])
-          (λ (build : Build). is_live s.limits.page (history_from start groups) build.name ≡ true
+          (λ (build : Build). is_live (page_limit s) (history_from start groups) build.name ≡ true
           → is_unfinished (history_from start groups) build.name ≡ true → (source : ℕ)
           → has_source build source ≡ true
-          → (is_live s.limits.page (history_from start groups) source ≡ true) × (is_broken (history_from start groups) source ≡ false))
-          (builds s.limits.page (history_from start groups))
+          → (is_live (page_limit s) (history_from start groups) source ≡ true) × (is_broken (history_from start groups) source ≡ false))
+          (builds (page_limit s) (history_from start groups))
           (λ build lives none live begun source has. (
             lives live begun source has,
             fails_at (is_broken (history_from start groups)) (sources build.parts) source (no_broken s (history_from start groups) build none begun) has,
           ))
           (unfiltered
           (λ (build : Build). is_unfinished (history_from start groups) build.name ≡ true → (source : ℕ) → has_source build source ≡ true
-          → is_live s.limits.page (history_from start groups) source ≡ true) (λ (build : Build). is_live s.limits.page (history_from start groups) build.name)
-          (builds s.limits.page (history_from start groups))
+          → is_live (page_limit s) (history_from start groups) source ≡ true) (λ (build : Build). is_live (page_limit s) (history_from start groups) build.name)
+          (builds (page_limit s) (history_from start groups))
           (subst
           (λ (xs : List Build).
           AllByRecursion (λ (build : Build). is_unfinished (history_from start groups) build.name ≡ true → (source : ℕ) → has_source build source ≡ true
-          → is_live s.limits.page (history_from start groups) source ≡ true) xs)
-          (live_named s.limits.page (history_from start groups) (ordered_distinct [] (builds s.limits.page (history_from start groups)) kept.ordered))
+          → is_live (page_limit s) (history_from start groups) source ≡ true) xs)
+          (live_named (page_limit s) (history_from start groups) (ordered_distinct [] (builds (page_limit s) (history_from start groups)) kept.ordered))
           (live_closed s groups legal)))
-          (each_ends s (history_from start groups) (builds s.limits.page (history_from start groups)) settled.1.0);
+          (each_ends s (history_from start groups) (builds (page_limit s) (history_from start groups)) settled.1.0);
     }

@@ -22,7 +22,7 @@ use Rattle.blob_entries.specs.Holdings.{fixed_views, held_views, own_views}
 use Rattle.blob_entries.specs.Statuses.{is_broken}
 use Rattle.blob_entries.specs.declared.step.Step.{Step}
 use Rattle.blob_entries.specs.declared.step.Step.TheVariants.{Own, Fixed, Source}
-use Rattle.blob_model.specs.Session.{Session}
+use Rattle.blob_model.specs.Session.{Session, page_limit}
 use Rattle.blob_model.specs.History.{History}
 use Rattle.blob_model.specs.Builds.{Build, Cell, builds, filed, lent}
 use Rattle.blob_model.specs.Live.{live}
@@ -269,16 +269,16 @@ filtered_any h test (build ∷ list) = go (is_broken_now h build.name) (filtered
 
 module _ (s : Session) (h : History) (stands : ℕ → Bool) (book : Book) (shares : List (Option Share)) (rows : List (Option Row)) (quota : Queue)
     (files : Files) (order : List (ℕ × ℕ))
-    (contents : ContentsStand s h stands book shares rows quota files order) (exact : AreExact s h stands) (rest : IsAtRest s.limits.page h)
+    (contents : ContentsStand s h stands book shares rows quota files order) (exact : AreExact s h stands) (rest : IsAtRest (page_limit s) h)
     (counted : IsCounted book shares rows) (k : ℕ) where
   abbrev whole : List Build
-  whole = builds s.limits.page h
+  whole = builds (page_limit s) h
 
   abbrev all : List Piece
-  all = pieces s.limits.page h
+  all = pieces (page_limit s) h
 
   abbrev own : ℕ → List ℕ
-  own = own_pieces s.limits.page h
+  own = own_pieces (page_limit s) h
 
   abbrev both_pairs : List (Build × Entry)
   both_pairs = pairs s h stands book shares rows quota files order contents exact rest counted
@@ -395,12 +395,12 @@ module _ (s : Session) (h : History) (stands : ℕ → Bool) (book : Book) (shar
       ap (λ (b : Bool). not b && list_any (is_of_slot k) pair.0.cells)
       (sym (broken_now s h pair.0) ∙ ap is_broken (sym (status_of s h stands book shares rows quota files order contents exact rest counted pair told)))
 
-  pub slot_reached : holds_slot shares k ≡ is_slot_reached s.limits.page h k
+  pub slot_reached : holds_slot shares k ≡ is_slot_reached (page_limit s) h k
   slot_reached =
       held_as
       ∙ sym
-      (some_twice (is_of_slot k) (live_cells s.limits.page h)
-      ∙ filtered_any h (is_of_slot k) (live s.limits.page h)
+      (some_twice (is_of_slot k) (live_cells (page_limit s) h)
+      ∙ filtered_any h (is_of_slot k) (live (page_limit s) h)
       ∙ ap (list_any (λ (build : Build). not (is_broken_now h build.name) && list_any (is_of_slot k) build.cells))
       (live_pairs s h stands book shares rows quota files order contents exact rest counted)
       ∙ map_firsts (λ (build : Build). not (is_broken_now h build.name) && list_any (is_of_slot k) build.cells) both_pairs

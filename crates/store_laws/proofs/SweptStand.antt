@@ -19,7 +19,7 @@ use Rattle.blob_model.specs.History.{History}
 use Rattle.blob_model.specs.Jobs.{paging}
 use Rattle.blob_model.specs.Live.{is_live}
 use Rattle.blob_model.specs.Pieces.{Piece, pieces}
-use Rattle.blob_model.specs.Session.{Session}
+use Rattle.blob_model.specs.Session.{Session, page_limit}
 use Rattle.blob_model.specs.Settle.{drops}
 use Rattle.registry_laws.specs.Laws.{Describes}
 use Rattle.registry_laws.proofs.Drops.{goes}
@@ -39,17 +39,17 @@ use Rattle.store_laws.proofs.Queueing.{items_let_go, queue_let_go}
 
 module _ (s : Session) (h : History) (stands : ℕ → Bool) (book : Book) (shares : List (Option Share)) (rows : List (Option Row)) (quota : Queue)
     (files : Files) (order : List (ℕ × ℕ)) (contents : ContentsStand s h stands book shares rows quota files order) (tell : Describes s h book)
-    (covers : (name : ℕ) → is_live s.limits.page h name ≡ true → stands name ≡ true) (views : List View) (later : List (Option Share))
+    (covers : (name : ℕ) → is_live (page_limit s) h name ≡ true → stands name ≡ true) (views : List View) (later : List (Option Share))
     (freed : List Item) (lets : LetsGo views shares later [] freed) (viewed : AreViewed later)
     (counts : (slot : ℕ) → count_at later slot ≡ views_in (swept book.names 0 book.entries) slot + pins slot rows) where
   abbrev g : History
   g = after_drops s h
 
   abbrev alive : ℕ → Bool
-  alive = is_live s.limits.page h
+  alive = is_live (page_limit s) h
 
   abbrev list_now : List Build
-  list_now = builds s.limits.page h
+  list_now = builds (page_limit s) h
 
   abbrev left : List (Option Entry)
   left = entries_left alive list_now book.entries
@@ -74,8 +74,8 @@ module _ (s : Session) (h : History) (stands : ℕ → Bool) (book : Book) (shar
   entries : EntriesAre s g alive (book_of book.names left) later rows_now
   entries = sweep_leaves_live.left_stand s h stands book shares rows quota files order contents tell covers later kept
 
-  same_pieces : pieces s.limits.page g ≡ pieces s.limits.page h
-  same_pieces = drops_keep (λ (one : History). pieces s.limits.page one) (λ one name. refl) h dropped_list
+  same_pieces : pieces (page_limit s) g ≡ pieces (page_limit s) h
+  same_pieces = drops_keep (λ (one : History). pieces (page_limit s) one) (λ one name. refl) h dropped_list
 
   same_facts : page_facts_of g ≡ page_facts_of h
   same_facts = drops_keep page_facts_of (λ one name. refl) h dropped_list
@@ -83,11 +83,11 @@ module _ (s : Session) (h : History) (stands : ℕ → Bool) (book : Book) (shar
   same_paging : paging g ≡ paging h
   same_paging = drops_keep paging (λ one name. refl) h dropped_list
 
-  pages : PagesStand (pieces s.limits.page g) (page_facts_of g) s.limits.disk later (fold let_go_by files freed)
+  pages : PagesStand (pieces (page_limit s) g) (page_facts_of g) s.limits.disk later (fold let_go_by files freed)
   pages =
       subst (λ (all : List Piece). PagesStand all (page_facts_of g) s.limits.disk later (fold let_go_by files freed)) (sym same_pieces)
-      (subst (λ (facts : PageFacts). PagesStand (pieces s.limits.page h) facts s.limits.disk later (fold let_go_by files freed)) (sym same_facts)
-      (pages_let_go (pieces s.limits.page h) (page_facts_of h) s.limits.disk shares later files freed contents.page_files_stand contents.items.apart freed_so))
+      (subst (λ (facts : PageFacts). PagesStand (pieces (page_limit s) h) facts s.limits.disk later (fold let_go_by files freed)) (sym same_facts)
+      (pages_let_go (pieces (page_limit s) h) (page_facts_of h) s.limits.disk shares later files freed contents.page_files_stand contents.items.apart freed_so))
 
   contents_left : (names : List ℕ) → map (λ (name : ℕ). answers.Dropped name) names ≡ drops s h → (used : ℕ)
       → ContentsStand s g alive (book_of book.names left) later rows_now (queue_left quota names used) (fold let_go_by files freed) (fold left_by order freed)
@@ -107,8 +107,8 @@ module _ (s : Session) (h : History) (stands : ℕ → Bool) (book : Book) (shar
 
 pub swept_stands : SweptStands
 swept_stands s h stands book shares rows quota files order contents tell covers views later freed lets viewed counts names told used =
-    subst (λ (entries : List (Option Entry)). ContentsStand s (after_drops s h) (is_live s.limits.page h) (book_of book.names entries) later
-    (rows_left (is_live s.limits.page h) (builds s.limits.page h) rows) (queue_left quota names used) (fold let_go_by files freed)
+    subst (λ (entries : List (Option Entry)). ContentsStand s (after_drops s h) (is_live (page_limit s) h) (book_of book.names entries) later
+    (rows_left (is_live (page_limit s) h) (builds (page_limit s) h) rows) (queue_left quota names used) (fold let_go_by files freed)
     (fold left_by order freed))
     (sym (live s h stands book shares rows quota files order contents tell covers views later freed lets viewed counts))
     (contents_left s h stands book shares rows quota files order contents tell covers views later freed lets viewed counts names told used)

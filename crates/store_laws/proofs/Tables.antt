@@ -32,7 +32,7 @@ use Rattle.blob_model.specs.History.{History, heard, refused, said, start}
 use Rattle.blob_model.specs.Readers.{OpenReader, readers}
 use Rattle.blob_model.specs.Recorded.{file_names, last_stamp, recorded}
 use Rattle.blob_model.specs.Renderers.{is_alive, origin_of, spawned}
-use Rattle.blob_model.specs.Session.{Session}
+use Rattle.blob_model.specs.Session.{Session, page_limit}
 use Rattle.blob_model.proofs.Lists.{false_true, or_first, or_second}
 use Rattle.store_laws.specs.Apart.{same_number, same_text, AreApartBy, AreReadersApart, AreUrlsApart}
 use Rattle.store_laws.specs.LineLaws.{counted, AreUnmarked}
@@ -353,7 +353,7 @@ module _ (s : Session) (h : History) (stands : ℕ → Bool) (parts : Parts) (to
         readers_stand = between.tables.readers_stand;
       }) refl
 
-  pub closing : AreReadersApart s.limits.page h → (renderer : RendererId) (reader : ReaderId) (name : ℕ) (open_readers : Open)
+  pub closing : AreReadersApart (page_limit s) h → (renderer : RendererId) (reader : ReaderId) (name : ℕ) (open_readers : Open)
       → ReaderGoes reader.0 parts.readers open_readers
       → Between s (heard h (events.Cancel renderer reader) answers.Good) stands
       (counted (record parts { book = changed parts.book name held_less; readers = open_readers })) told table
@@ -365,5 +365,5 @@ module _ (s : Session) (h : History) (stands : ℕ → Bool) (parts : Parts) (to
         renderers = between.tables.renderers;
         urls_stand = between.tables.urls_stand;
         files_stand = between.tables.files_stand;
-        readers_stand = reader_goes (readers s.limits.page h) parts.readers open_readers between.tables.readers_stand apart reader.0 goes;
+        readers_stand = reader_goes (readers (page_limit s) h) parts.readers open_readers between.tables.readers_stand apart reader.0 goes;
       }) refl)

@@ -17,7 +17,7 @@ use Rattle.blob_entries.specs.declared.entry.Entry.{Entry}
 use Rattle.blob_model.specs.Builds.{Build, build_in, builds, size_in}
 use Rattle.blob_model.specs.History.{History}
 use Rattle.blob_model.specs.Own.{IsAccepted, kind_in, pending_status, status_of}
-use Rattle.blob_model.specs.Session.{Session}
+use Rattle.blob_model.specs.Session.{Session, page_limit}
 use Rattle.blob_model.specs.Standing.{ended, is_broken_status}
 use Rattle.blob_model.specs.Standing.{is_broken as was_broken}
 use Rattle.blob_model.specs.Transport.{has_all}
@@ -94,17 +94,17 @@ broken_so status = refl
 
 module _ (s : Session) (h : History) (stands : ℕ → Bool) (parts : Parts) (told : Option (List Change)) (table : HandleTable)
     (between : Between s h stands parts told table) (name : ℕ) (entry : Entry) (at : entry_of parts.book name ≡ Some entry) where
-  built : IsBuiltAs s h (builds s.limits.page h) name entry
+  built : IsBuiltAs s h (builds (page_limit s) h) name entry
   built =
-      entry_built s h stands name entry (builds s.limits.page h) parts.book.entries between.contents.outlines_stand
+      entry_built s h stands name entry (builds (page_limit s) h) parts.book.entries between.contents.outlines_stand
       (ap (λ (names : List ℕ). option_and_then (entry_at parts.book.entries) (number_of name names)) (sym between.contents.names) ∙ at)
 
-  pub size_told : entry.size ≡ size_in (builds s.limits.page h) name
+  pub size_told : entry.size ≡ size_in (builds (page_limit s) h) name
   size_told =
       ap (λ (o : Outline). o.size) built.outline_is
       ∙ sym (ap (λ (o : Option Build). option_map_or (λ (build : Build). (outline_of s h build).size) o 0) built.found)
 
-  pub kind_told : entry.kind ≡ kind_in (builds s.limits.page h) name
+  pub kind_told : entry.kind ≡ kind_in (builds (page_limit s) h) name
   kind_told =
       ap (λ (o : Outline). o.kind) built.outline_is ∙ sym (ap (λ (o : Option Build). option_map_or (λ (build : Build). build.kind) o []) built.found)
 
@@ -129,15 +129,15 @@ module _ (s : Session) (h : History) (stands : ℕ → Bool) (parts : Parts) (to
       pending (Some build) = pending_by (is_waiting h build) (has_all s.limits h build)
 
       by : (found : Option Status)
-          → is_broken (unwrap_or found (option_map_or (pending_status s h) (build_in (builds s.limits.page h) name) statuses.PendingTransport))
+          → is_broken (unwrap_or found (option_map_or (pending_status s h) (build_in (builds (page_limit s) h) name) statuses.PendingTransport))
           ≡ option_map_or is_broken_status found false
-      by None = pending (build_in (builds s.limits.page h) name)
+      by None = pending (build_in (builds (page_limit s) h) name)
       by (Some status) = broken_so status
 
   -- what is told is what the history says
   pub stat_accepted : (renderer : RendererId) → IsAccepted s h (events.Stat renderer name) (answers.Told name entry.size entry.kind entry.status ∷ [])
   stat_accepted renderer =
       inl (ap (λ (size : ℕ). answers.Told name size entry.kind entry.status ∷ []) size_told
-      ∙ ap (λ (kind : List ℕ). answers.Told name (size_in (builds s.limits.page h) name) kind entry.status ∷ []) kind_told
+      ∙ ap (λ (kind : List ℕ). answers.Told name (size_in (builds (page_limit s) h) name) kind entry.status ∷ []) kind_told
       ∙ ap (λ (status : Status).
-      answers.Told name (size_in (builds s.limits.page h) name) (kind_in (builds s.limits.page h) name) status ∷ []) status_told)
+      answers.Told name (size_in (builds (page_limit s) h) name) (kind_in (builds (page_limit s) h) name) status ∷ []) status_told)

@@ -25,7 +25,7 @@ use Rattle.blob_model.specs.Changes.{piece_bytes}
 use Rattle.blob_model.specs.Pages.{in_memory}
 use Rattle.blob_model.specs.Refusals.{claimed, is_in}
 use Rattle.blob_model.specs.Recorded.{content, recorded, FileState}
-use Rattle.blob_model.specs.Session.{Session, Slot}
+use Rattle.blob_model.specs.Session.{Session, Slot, page_limit}
 use Rattle.blob_model.specs.Value.{agrees, is_byte, is_untold, slot_bytes, tells_nothing, value}
 use Rattle.model_bridges.specs.Bridges.{state_as}
 use Rattle.store_laws.specs.BuildLaws.{IsUnpaged}
@@ -111,7 +111,8 @@ content_recorded (heard h event answer) name state is = content_recorded h name 
 
 module _ (s : Session) (h : History) where
   memory_told : (bytes : List ℕ) (place byte : ℕ) (found : Option Piece)
-      → IsSomeAnd found (λ (one : Piece). ((facts_of s h).granted one ≡ true) × ((facts_of s h).place one ≡ in_memory) × (bytes ≡ piece_bytes s h one) × (length bytes ≡ one.len))
+      → IsSomeAnd found (λ (one : Piece). ((facts_of s h).granted one ≡ true) × ((facts_of s h).place one ≡ in_memory) × (bytes ≡ piece_bytes s h one)
+      × (length bytes ≡ one.len))
       → place + 1 ≤ length bytes → IfSome (slice_get bytes place) (λ (known : ℕ). byte ≡ known) → agrees s h (piece_cell found place) byte ≡ true
   memory_told bytes place byte None placed within is = absurd placed
   memory_told bytes place byte (Some one) placed within is =
@@ -149,10 +150,15 @@ module _ (s : Session) (h : History) where
       by : (bytes : Option (List ℕ)) → note.bytes ≡ bytes → agrees s h (filed name stamp (off + place)) byte ≡ true
       by None at =
           let fails : not (is_readable stamp (off + place + 1) None) ≡ false =
-          subst (λ (one : Option (List ℕ)). not (is_readable stamp (off + place + 1) (option_map (λ (bytes : List ℕ). record { stamp = note.last; len = length bytes }) one)) ≡ false) at passes in
+          subst (λ (one : Option (List ℕ)). not (is_readable stamp (off + place + 1)
+          (option_map (λ (bytes : List ℕ). record { stamp = note.last; len = length bytes }) one)) ≡ false) at passes in
           absurd (cc fails)
       by (Some bytes) at =
-          let fits = readable bytes (subst (λ (one : Option (List ℕ)). not (is_readable stamp (off + place + 1) (option_map (λ (bytes : List ℕ). record { stamp = note.last; len = length bytes }) one)) ≡ false) at passes) in
+          let fits =
+          readable bytes
+          (subst
+          (λ (one : Option (List ℕ)). not (is_readable stamp (off + place + 1)
+          (option_map (λ (bytes : List ℕ). record { stamp = note.last; len = length bytes }) one)) ≡ false) at passes) in
           let stands : recorded h name ≡ Some (record { stamp = note.last; bytes = bytes }) =
           sym stand ∙ ap (λ (one : Option (List ℕ)). option_map (λ (list : List ℕ). record { stamp = note.last; bytes = list }) one) at in
           let known : content h name stamp ≡ Some bytes =
@@ -165,13 +171,15 @@ module _ (s : Session) (h : History) where
           (by_told s h (slice_get bytes (off + place)) (value s h (filed name stamp (off + place))) byte same
           (got s h bytes (off + place) (omega (arith, fits.1)))
           (subst (λ (found : Option ℕ). IfSome found (λ (known : ℕ). byte ≡ known)) (slice_drop off place bytes)
-          (subst (λ (one : Option (List ℕ)). IfSome (option_and_then (λ (list : List ℕ). slice_get list place) (option_map (drop off) one)) (λ (known : ℕ). byte ≡ known)) here is)))
+          (subst (λ (one : Option (List ℕ)). IfSome (option_and_then (λ (list : List ℕ). slice_get list place) (option_map (drop off) one))
+          (λ (known : ℕ). byte ≡ known)) here is)))
 
   range_told : (k off len place byte : ℕ) (named held : Bool) (one : Option TableSlot) (slot : Option Slot) → slice_get s.outside.slots k ≡ slot
       → slot_seen one ≡ slot_now named held slot
       → IsSomeAnd (option_and_then (λ (each : TableSlot). each.object) one) (λ (handle : Handle). off + len ≤ handle.size) → place + 1 ≤ len
       → IfSome (option_and_then (λ (bytes : List ℕ). slice_get bytes place)
-      (option_map (drop off) (option_and_then (λ (handle : Handle). handle.told) (option_and_then (λ (each : TableSlot). each.object) one)))) (λ (known : ℕ). byte ≡ known)
+      (option_map (drop off) (option_and_then (λ (handle : Handle). handle.told) (option_and_then (λ (each : TableSlot). each.object) one))))
+      (λ (known : ℕ). byte ≡ known)
       → agrees s h (lent k (off + place)) byte ≡ true
   range_told k off len place byte named held None slot at seen there within is = absurd there
   range_told k off len place byte named held (Some one) None at seen there within is = absurd (cc seen)
@@ -183,13 +191,15 @@ module _ (s : Session) (h : History) where
           → (is_none bytes || is_byte (option_and_then (λ (list : List ℕ). slice_get list (off + place)) bytes) byte) ≡ true
       by_bytes handle same room is None tells = refl
       by_bytes handle same room is (Some bytes) tells =
-          let whole : length bytes ≡ slot.size = subst (λ (one : Option (List ℕ)). IfSome one (λ (told : List ℕ). length told ≡ slot.size)) tells slot.told_whole in
+          let whole : length bytes ≡ slot.size = subst (λ (one : Option (List ℕ)). IfSome one (λ (told : List ℕ). length told ≡ slot.size)) tells
+          slot.told_whole in
           let told : handle.told ≡ Some bytes = same.1 ∙ tells in
           is_value s h false (slice_get bytes (off + place)) byte
           (by_told s h (slice_get bytes (off + place)) (slice_get bytes (off + place)) byte refl
           (got s h bytes (off + place) (let size = same.0 in omega (arith, whole, size, room, within)))
           (subst (λ (found : Option ℕ). IfSome found (λ (known : ℕ). byte ≡ known)) (slice_drop off place bytes)
-          (subst (λ (one : Option (List ℕ)). IfSome (option_and_then (λ (list : List ℕ). slice_get list place) (option_map (drop off) one)) (λ (known : ℕ). byte ≡ known)) told is)))
+          (subst (λ (one : Option (List ℕ)). IfSome (option_and_then (λ (list : List ℕ). slice_get list place) (option_map (drop off) one))
+          (λ (known : ℕ). byte ≡ known)) told is)))
 
       seen_so : (handle : Handle) (b : Bool)
           → ◌≡◌ {A = Option (Bool × Option (ℕ × Option (List ℕ)))} (Some (one.is_claimed, Some (seen_as handle)))
@@ -202,9 +212,9 @@ module _ (s : Session) (h : History) where
           absurd (cc wrong)
       seen_so handle false e = (
         ap (λ (found : Option (Bool × Option (ℕ × Option (List ℕ)))).
-        option_map_or (λ (pair : Bool × Option (ℕ × Option (List ℕ))). option_map_or (λ (each : ℕ × Option (List ℕ)). each.0) pair.1 0) found 0) e,
+            option_map_or (λ (pair : Bool × Option (ℕ × Option (List ℕ))). option_map_or (λ (each : ℕ × Option (List ℕ)). each.0) pair.1 0) found 0) e,
         ap (λ (found : Option (Bool × Option (ℕ × Option (List ℕ)))).
-        option_map_or (λ (pair : Bool × Option (ℕ × Option (List ℕ))). option_map_or (λ (each : ℕ × Option (List ℕ)). each.1) pair.1 None) found None) e,
+            option_map_or (λ (pair : Bool × Option (ℕ × Option (List ℕ))). option_map_or (λ (each : ℕ × Option (List ℕ)). each.1) pair.1 None) found None) e,
       )
 
       by_object : (object : Option Handle) → one.object ≡ object → agrees s h (lent k (off + place)) byte ≡ true
@@ -226,10 +236,10 @@ tells_cells s h stands parts told table between slot place byte item at unpaged 
   where
     by : (item : Item) → item_at parts.shares slot ≡ Some item → IsUnpaged item → Lies (origins parts.files told table) place 1 item
         → item_fails parts.files place item ≡ false → IfSome (item_byte (origins parts.files told table) place item) (λ (known : ℕ). byte ≡ known)
-        → agrees s h (item_cell (pieces s.limits.page h) item place) byte ≡ true
+        → agrees s h (item_cell (pieces (page_limit s) h) item place) byte ≡ true
     by (Memory piece bytes) at unpaged lies passes is =
-        let placed = subst (λ (held : Option Item). IfSome held (IsPlaced (pieces s.limits.page h) (facts_of s h))) at (between.contents.items.each slot) in
-        memory_told s h bytes place byte (piece_in (pieces s.limits.page h) piece.0) placed lies is
+        let placed = subst (λ (held : Option Item). IfSome held (IsPlaced (pieces (page_limit s) h) (facts_of s h))) at (between.contents.items.each slot) in
+        memory_told s h bytes place byte (piece_in (pieces (page_limit s) h) piece.0) placed lies is
     by (Paged piece page off len) at unpaged lies passes is = absurd unpaged
     by (Reserved piece len) at unpaged lies passes is = absurd lies
     by (File name stamp off len) at unpaged lies passes is =

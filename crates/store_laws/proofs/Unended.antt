@@ -15,7 +15,7 @@ use Rattle.blob_model.specs.History.{History, heard, refused, said, start}
 use Rattle.blob_model.specs.Laws.{is_build}
 use Rattle.blob_model.specs.Order.{named}
 use Rattle.blob_model.specs.Own.{IsAccepted}
-use Rattle.blob_model.specs.Session.{Session}
+use Rattle.blob_model.specs.Session.{Session, page_limit}
 use Rattle.blob_model.specs.Standing.{ended, ended_after}
 use Rattle.blob_model.proofs.Lists.{any_append_first, any_append_second, false_true, or_first}
 use Rattle.blob_model.proofs.builds.Growth.{only_one}
@@ -46,7 +46,7 @@ ended_or false status before is = inl is
 
 module _ (s : Session) where
   abbrev WasBuilt : History → ℕ → Type 0
-  WasBuilt h name = named name (builds s.limits.page h) ≡ true
+  WasBuilt h name = named name (builds (page_limit s) h) ≡ true
 
   built_ends : (h : History) (own : ℕ) (parts : List Part) (name : ℕ) (status : Option Status)
       → is_some (ended_after (build_answer_by s h own parts status) name (ended h name)) ≡ true → (is_some (ended h name) ≡ true) ⊎ ((own == name) ≡ true)
@@ -56,7 +56,7 @@ module _ (s : Session) where
   still_built : (h : History) (event : Event) (answer : Answer) (name : ℕ) → WasBuilt h name → WasBuilt (heard h event answer) name
   still_built h event answer name is =
       subst (λ (list : List Build). named name list ≡ true) (sym (grown_heard s h event answer).blobs)
-      (any_append_first (λ (build : Build). build.name == name) (builds s.limits.page h) (grown_heard s h event answer).more is)
+      (any_append_first (λ (build : Build). build.name == name) (builds (page_limit s) h) (grown_heard s h event answer).more is)
 
   by_build : (h : History) (event : Event) (answer : Answer) (rest : List Answer) (own name renderer : ℕ) (parts : List Part)
       → (IsAccepted s h event (answer ∷ rest) → (answer ∷ rest) ≡ build_answer s h renderer own parts ∷ [])
@@ -75,18 +75,18 @@ module _ (s : Session) where
   by_line h (events.Build renderer own kind parts) answer rest name accepted is before =
       by_build h (events.Build renderer own kind parts) answer rest own name renderer.0 parts
       (only_one (answer ∷ rest) (build_answer s h renderer.0 own parts ∷ []))
-      (λ same. any_append_second (λ (build : Build). build.name == name) (builds s.limits.page h) _ (or_first (own == name) false same)) accepted is before
+      (λ same. any_append_second (λ (build : Build). build.name == name) (builds (page_limit s) h) _ (or_first (own == name) false same)) accepted is before
   by_line h (events.Slice renderer own source from to kind) answer rest name accepted is before =
-      by_build h (events.Slice renderer own source from to kind) answer rest own name renderer.0 (slice_parts (builds s.limits.page h) source from to)
-      (only_one (answer ∷ rest) (build_answer s h renderer.0 own (slice_parts (builds s.limits.page h) source from to) ∷ []))
-      (λ same. any_append_second (λ (build : Build). build.name == name) (builds s.limits.page h) _ (or_first (own == name) false same)) accepted is before
+      by_build h (events.Slice renderer own source from to kind) answer rest own name renderer.0 (slice_parts (builds (page_limit s) h) source from to)
+      (only_one (answer ∷ rest) (build_answer s h renderer.0 own (slice_parts (builds (page_limit s) h) source from to) ∷ []))
+      (λ same. any_append_second (λ (build : Build). build.name == name) (builds (page_limit s) h) _ (or_first (own == name) false same)) accepted is before
   by_line h event answer rest name accepted is before =
       still_built h event answer name
       (before (ap is_some (sym (plain_ends s h event answer rest name (own_case s h event (answer ∷ rest) accepted) refl)) ∙ is))
 
   found_built : (h : History) (build : Build) (name : ℕ) → IsBuilt s h build → (build.name == name) ≡ true → WasBuilt h name
   found_built h build name found same =
-      subst (λ (n : ℕ). WasBuilt h n) (eqb-true build.name name same) (sym (found_named (builds s.limits.page h) build.name) ∙ ap is_some found)
+      subst (λ (n : ℕ). WasBuilt h n) (eqb-true build.name name same) (sym (found_named (builds (page_limit s) h) build.name) ∙ ap is_some found)
 
   -- a further answer ends a blob that was built, or nobody
   by_further : (h : History) (answer : Answer) (name : ℕ) → IsFurther s h answer → is_some (ended_after answer name (ended h name)) ≡ true
@@ -123,7 +123,7 @@ module _ (s : Session) where
   ended_built (said h answer) caused name is = by_further h answer name caused.0 is (ended_built h caused.1 name)
 
   -- a blob that wasn't built hasn't ended
-  pub unbuilt_unended : (h : History) → IsCaused s h → (name : ℕ) → named name (builds s.limits.page h) ≡ false → ended h name ≡ None
+  pub unbuilt_unended : (h : History) → IsCaused s h → (name : ℕ) → named name (builds (page_limit s) h) ≡ false → ended h name ≡ None
   unbuilt_unended h caused name fresh = go (ended h name) refl
     where
       go : (o : Option Status) → ended h name ≡ o → o ≡ None

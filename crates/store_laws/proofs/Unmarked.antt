@@ -11,7 +11,7 @@ use Rattle.data_handles.specs.Table.{Table as HandleTable}
 use Rattle.page_disk.specs.declared.change.Change.{Change}
 use Rattle.blob_entries.specs.Statuses.{is_pending}
 use Rattle.blob_entries.specs.declared.entry.Entry.{Entry}
-use Rattle.blob_model.specs.Session.{Session}
+use Rattle.blob_model.specs.Session.{Session, page_limit}
 use Rattle.blob_model.specs.History.{History, history_from, start}
 use Rattle.blob_model.specs.Builds.{Build, builds}
 use Rattle.blob_model.specs.Choice.{first_that}
@@ -81,8 +81,8 @@ pub none_marked : (s : Session) (groups : List Group) (stands : ℕ → Bool) (p
 none_marked s groups stands parts told table legal between =
     let h = history_from start groups in
     let settled = all_empty (drops s ∷ endings s ∷ drops s ∷ removals s [] ∷ grants s ∷ page_jobs s ∷ compactions s ∷ []) h (settled_after s groups legal) in
-    each_unmarked s (history_from start groups) (rests_when_settled s groups legal).ends stands (builds s.limits.page (history_from start groups))
-    parts.book.entries between.contents.outlines_stand (each_ends s (history_from start groups) (builds s.limits.page (history_from start groups)) settled.1.0)
+    each_unmarked s (history_from start groups) (rests_when_settled s groups legal).ends stands (builds (page_limit s) (history_from start groups))
+    parts.book.entries between.contents.outlines_stand (each_ends s (history_from start groups) (builds (page_limit s) (history_from start groups)) settled.1.0)
     between.contents.marks
 
 -- where nobody is marked, the marks agree with any history

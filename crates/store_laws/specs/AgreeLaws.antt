@@ -8,7 +8,7 @@ use Rattle.item_shares.specs.declared.shares.Share.{Share}
 use Rattle.item_shares.specs.Weights.{weights}
 use Rattle.page_files.specs.Files.{Files}
 use Rattle.quota_queue.specs.Queue.{Queue}
-use Rattle.blob_model.specs.Session.{Session}
+use Rattle.blob_model.specs.Session.{Session, page_limit}
 use Rattle.blob_model.specs.History.{History}
 use Rattle.blob_model.specs.Builds.{Build, builds}
 use Rattle.blob_model.specs.Live.{is_rooted}
@@ -31,7 +31,7 @@ EntriesAgree =
     (s : Session) (h : History) (stands : ℕ → Bool) (book : Book) (shares : List (Option Share)) (rows : List (Option Row)) (quota : Queue) (files : Files)
     (order : List (ℕ × ℕ)) → ContentsStand s h stands book shares rows quota files order → Covers s h stands
     → ((name : ℕ) → IfSome (ended h name) (λ (status : Status). is_pending status ≡ false))
-    → Beside (IsRootedAs s.limits.page h) (builds s.limits.page h) book.entries → AgreesWith s.limits.page h book
+    → Beside (IsRootedAs (page_limit s) h) (builds (page_limit s) h) book.entries → AgreesWith (page_limit s) h book
 
 -- what the parts keep among themselves, with what is charged to memory
 pub record IsKept (s : Session) (h : History) (book : Book) (shares : List (Option Share)) (rows : List (Option Row)) (quota : Queue)
@@ -45,5 +45,5 @@ pub record IsKept (s : Session) (h : History) (book : Book) (shares : List (Opti
 abbrev pub ReachesFollows : Type 0
 ReachesFollows =
     (s : Session) (h : History) (stands : ℕ → Bool) (book : Book) (shares : List (Option Share)) (rows : List (Option Row)) (quota : Queue) (files : Files)
-    (order : List (ℕ × ℕ)) → ContentsStand s h stands book shares rows quota files order → AreExact s h stands → IsAtRest s.limits.page h
+    (order : List (ℕ × ℕ)) → ContentsStand s h stands book shares rows quota files order → AreExact s h stands → IsAtRest (page_limit s) h
     → IsKept s h book shares rows quota files → Reaches s h shares rows quota files

@@ -6,7 +6,7 @@ use Rattle.answer_text.specs.declared.group.Group.{Group}
 use Rattle.blob_model.specs.History.{history_from, start, History}
 use Rattle.blob_model.specs.Legal.{IsLegalFrom}
 use Rattle.blob_model.specs.Readers.{OpenReader, readers}
-use Rattle.blob_model.specs.Session.{Session}
+use Rattle.blob_model.specs.Session.{Session, page_limit}
 
 -- no later item has the key of an earlier one
 abbrev pub AreApartBy : {X : Type 0} → (X → X → Bool) → List X → Type 0
@@ -31,4 +31,4 @@ AreReadersApart page h = AreApartBy same_number (readers page h)
 abbrev pub KeysDiffer : Type 0
 KeysDiffer =
     (s : Session) (groups : List Group) → IsLegalFrom s start groups
-    → AreUrlsApart (history_from start groups) × AreReadersApart s.limits.page (history_from start groups)
+    → AreUrlsApart (history_from start groups) × AreReadersApart (page_limit s) (history_from start groups)

@@ -27,7 +27,7 @@ use Rattle.blob_model.specs.Order.{named}
 use Rattle.blob_model.specs.Pages.{Page, pages}
 use Rattle.blob_model.specs.Parts.{own_bytes}
 use Rattle.blob_model.specs.Pieces.{Piece, pieces, spans_of}
-use Rattle.blob_model.specs.Session.{Session}
+use Rattle.blob_model.specs.Session.{Session, page_limit}
 use Rattle.blob_model.specs.Standing.{ended, is_done, was_granted}
 use Rattle.blob_model.specs.Transport.{arrivals}
 use Rattle.blob_model.specs.Victims.{last_uses}
@@ -47,8 +47,8 @@ use Rattle.store_laws.specs.Weights.{reserved_weight}
 
 -- a history goes on with one blob more, which isn't done, and of what the contents stand for nothing else changes
 pub record Adds (s : Session) (h later : History) (new : Build) : Type 0 where
-  pub blobs : builds s.limits.page later ≡ builds s.limits.page h ++ new ∷ []
-  pub fresh : named new.name (builds s.limits.page h) ≡ false
+  pub blobs : builds (page_limit s) later ≡ builds (page_limit s) h ++ new ∷ []
+  pub fresh : named new.name (builds (page_limit s) h) ≡ false
   pub undone : is_done later new.name ≡ false
   pub endings : (name : ℕ) → (new.name == name) ≡ false → ended later name ≡ ended h name
   pub grants : (name : ℕ) → was_granted later name ≡ was_granted h name
@@ -90,9 +90,9 @@ pub record AreAdded (all : List Piece) (facts : Facts) (count : ℕ) (shares now
 pub record IsEntered (s : Session) (later : History) (new : Build) (now : List (Option Share)) (entry : Entry) (row : Row) : Type 0 where
   pub outline_is : outline entry ≡ outline_of s later new
   pub unmarked : entry.mark ≡ None
-  pub stands : IsEntryFor (builds s.limits.page later) (pieces s.limits.page later) now (own_pieces s.limits.page later) new entry
+  pub stands : IsEntryFor (builds (page_limit s) later) (pieces (page_limit s) later) now (own_pieces (page_limit s) later) new entry
   pub row_is : bare row ≡ row_of s later new
-  pub slots : AreWritten now (own_pieces s.limits.page later new.name) row.coming
+  pub slots : AreWritten now (own_pieces (page_limit s) later new.name) row.coming
 
 -- those that wait, with the new blob last where it does
 abbrev pub now_waiting : History → Build → List (ℕ × ℕ) → List (ℕ × ℕ)
@@ -102,9 +102,9 @@ now_waiting later new list = list ++ (if is_waiting later new then (new.name, ow
 abbrev pub ContentsGrow : Type 0
 ContentsGrow =
     (s : Session) (h : History) (stands : ℕ → Bool) (book : Book) (shares : List (Option Share)) (rows : List (Option Row)) (quota : Queue) (files : Files)
-    (order : List (ℕ × ℕ)) → ContentsStand s h stands book shares rows quota files order → AreUnmarked book.entries → IsAtRest s.limits.page h
-    → AreListed s.limits.page h → (later : History) (new : Build) → Adds s h later new → (entry : Entry) (row : Row) (now : List (Option Share))
-    → AreAdded (pieces s.limits.page later) (facts_of s later) (length (pieces s.limits.page h)) shares now → IsEntered s later new now entry row
+    (order : List (ℕ × ℕ)) → ContentsStand s h stands book shares rows quota files order → AreUnmarked book.entries → IsAtRest (page_limit s) h
+    → AreListed (page_limit s) h → (later : History) (new : Build) → Adds s h later new → (entry : Entry) (row : Row) (now : List (Option Share))
+    → AreAdded (pieces (page_limit s) later) (facts_of s later) (length (pieces (page_limit s) h)) shares now → IsEntered s later new now entry row
     → (used : ℕ)
     → ContentsStand s later (λ (name : ℕ). (new.name == name) || stands name)
     (book_of (book.names ++ new.name ∷ []) (book.entries ++ Some entry ∷ [])) now (rows ++ Some row ∷ [])
@@ -114,12 +114,12 @@ ContentsGrow =
 
 -- in a legal transcript whatever page files list and the job in flight names is a piece of a blob
 abbrev pub ListedAreThere : Type 0
-ListedAreThere = (s : Session) (groups : List Group) → IsLegalFrom s start groups → AreListed s.limits.page (history_from start groups)
+ListedAreThere = (s : Session) (groups : List Group) → IsLegalFrom s start groups → AreListed (page_limit s) (history_from start groups)
 
 -- the blob that a line makes by its answer
 abbrev pub made : Session → History → RendererId → ℕ → List ℕ → List Part → Build
 made s h renderer name kind parts =
-    built s.limits.page (builds s.limits.page h) renderer.0 name kind parts (plan_told (build_answer s h renderer.0 name parts))
+    built (page_limit s) (builds (page_limit s) h) renderer.0 name kind parts (plan_told (build_answer s h renderer.0 name parts))
 
 -- in a legal transcript an accepted `build` or `slice` line adds its blob
 pub record BuildsAdd : Type 0 where
@@ -130,7 +130,7 @@ pub record BuildsAdd : Type 0 where
       (made s (history_from start groups) renderer name kind parts)
   pub by_slice : (s : Session) (groups : List Group) (renderer : RendererId) (name source : ℕ) (from to : Option ℤ) (kind : List ℕ)
       → IsLegalFrom s start groups → refusal s (history_from start groups) (events.Slice renderer name source from to kind) ≡ None
-      → (parts : List Part) → parts ≡ slice_parts (builds s.limits.page (history_from start groups)) source from to
+      → (parts : List Part) → parts ≡ slice_parts (builds (page_limit s) (history_from start groups)) source from to
       → Adds s (history_from start groups)
       (heard (history_from start groups) (events.Slice renderer name source from to kind) (build_answer s (history_from start groups) renderer.0 name parts))
       (made s (history_from start groups) renderer name kind parts)
@@ -144,7 +144,7 @@ grown_parts s later new entry row now renderers used parts = record parts {
   quota = record parts.quota { used = used; waiting = now_waiting later new parts.quota.waiting };
   pages = record parts.pages { reserved = weights reserved_weight now };
   renderers = renderers;
-  pieces = parts.pieces + length (spans_of s.limits.page new);
+  pieces = parts.pieces + length (spans_of (page_limit s) new);
   weight = parts.weight + new.weight;
 }
 
@@ -152,9 +152,9 @@ grown_parts s later new entry row now renderers used parts = record parts {
 abbrev pub GrownStands : Type 0
 GrownStands =
     (s : Session) (h : History) (stands : ℕ → Bool) (parts : Parts) (told : Option (List Change)) (table : HandleTable) → AreUnmarked parts.book.entries
-    → Between s h stands parts told table → IsAtRest s.limits.page h → AreListed s.limits.page h → (later : History) (new : Build) → Adds s h later new
+    → Between s h stands parts told table → IsAtRest (page_limit s) h → AreListed (page_limit s) h → (later : History) (new : Build) → Adds s h later new
     → lines later ≡ lines h + 1 → (entry : Entry) (row : Row) (now : List (Option Share))
-    → AreAdded (pieces s.limits.page later) (facts_of s later) (length (pieces s.limits.page h)) parts.shares now → IsEntered s later new now entry row
+    → AreAdded (pieces (page_limit s) later) (facts_of s later) (length (pieces (page_limit s) h)) parts.shares now → IsEntered s later new now entry row
     → (renderers : Table) → TablesStand s later renderers parts.urls parts.files parts.readers → (later_table : HandleTable)
     → HandlesStand s.outside.slots (λ (k : ℕ). is_in k (claimed s later)) (holds_slot now) later_table → DiskStands s later told → (used : ℕ)
     → Between s later (λ (name : ℕ). (new.name == name) || stands name) (counted (grown_parts s later new entry row now renderers used parts)) told later_table

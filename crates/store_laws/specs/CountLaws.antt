@@ -11,7 +11,7 @@ use Rattle.blob_model.specs.History.{heard, history_from, start}
 use Rattle.blob_model.specs.Legal.{IsLegalFrom}
 use Rattle.blob_model.specs.Live.{is_live}
 use Rattle.blob_model.specs.Own.{IsOwn}
-use Rattle.blob_model.specs.Session.{Session}
+use Rattle.blob_model.specs.Session.{Session, page_limit}
 use Rattle.store_laws.specs.LineLaws.{counted}
 use Rattle.store_laws.specs.Stands.{Between, Parts, Stands}
 
@@ -27,5 +27,5 @@ pub record TellsHowMany : Type 0 where
       → Stands s (history_from start groups) parts told table → IsOwn s (history_from start groups) events.Count (how_many parts ∷ [])
   pub stands : (s : Session) (groups : List Group) (parts : Parts) (told : Option (List Change)) (table : HandleTable) → IsLegalFrom s start groups
       → Stands s (history_from start groups) parts told table
-      → Between s (heard (history_from start groups) events.Count (how_many parts)) (is_live s.limits.page (history_from start groups)) (counted parts) told
+      → Between s (heard (history_from start groups) events.Count (how_many parts)) (is_live (page_limit s) (history_from start groups)) (counted parts) told
       table

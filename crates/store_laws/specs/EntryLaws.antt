@@ -20,7 +20,7 @@ use Rattle.blob_model.specs.Legal.{IsLegalFrom}
 use Rattle.blob_model.specs.Order.{named}
 use Rattle.blob_model.specs.Parts.{own_lengths, parts_length, sources}
 use Rattle.blob_model.specs.Pieces.{pieces, spans_of}
-use Rattle.blob_model.specs.Session.{Session}
+use Rattle.blob_model.specs.Session.{Session, page_limit}
 use Rattle.blob_model.specs.Standing.{ended, was_granted}
 use Rattle.blob_model.specs.Transport.{arrivals, spans}
 use Rattle.slice_rule.specs.Kind.{kept_type}
@@ -33,7 +33,7 @@ use Rattle.store_laws.specs.Uses.{own_pieces}
 -- in a legal transcript a blob that wasn't built hasn't ended
 abbrev pub UnbuiltUnended : Type 0
 UnbuiltUnended =
-    (s : Session) (groups : List Group) (name : ℕ) → IsLegalFrom s start groups → named name (builds s.limits.page (history_from start groups)) ≡ false
+    (s : Session) (groups : List Group) (name : ℕ) → IsLegalFrom s start groups → named name (builds (page_limit s) (history_from start groups)) ≡ false
     → ended (history_from start groups) name ≡ None
 
 -- a blob that broke at its line
@@ -99,35 +99,36 @@ all_lengths page parts = flat_map (piece_lengths page) (own_lengths parts)
 -- such an entry and row stand for the new blob
 pub record NewEntries : Type 0 where
   pub broken : (s : Session) (h later : History) (owner : RendererId) (name : ℕ) (kind : List ℕ) (parts : List Part) (why : Status) (now : List (Option Share))
-      → Adds s h later (built s.limits.page (builds s.limits.page h) owner.0 name kind parts None) → ended later name ≡ Some why → is_broken why ≡ true
-      → IsEntered s later (built s.limits.page (builds s.limits.page h) owner.0 name kind parts None) now (broken_entry owner kind why)
-      (settled_row None 0 (length (pieces s.limits.page h)) parts)
+      → Adds s h later (built (page_limit s) (builds (page_limit s) h) owner.0 name kind parts None) → ended later name ≡ Some why → is_broken why ≡ true
+      → IsEntered s later (built (page_limit s) (builds (page_limit s) h) owner.0 name kind parts None) now (broken_entry owner kind why)
+      (settled_row None 0 (length (pieces (page_limit s) h)) parts)
   pub ready : (s : Session) (h later : History) (owner : RendererId) (name : ℕ) (kind : List ℕ) (parts : List Part) (plan : Plan) (now : List (Option Share))
-      (views own : List View) → 0 < s.limits.page
-      → Adds s h later (built s.limits.page (builds s.limits.page h) owner.0 name kind parts (Some plan)) → ended later name ≡ None → IsReady plan
-      → AllByRecursion (λ (source : ℕ). named source (builds s.limits.page h) ≡ true) (sources parts) → AreRanges now views parts
-      → AreBrought now (length (pieces s.limits.page h)) (all_lengths s.limits.page parts) own
-      → IsEntered s later (built s.limits.page (builds s.limits.page h) owner.0 name kind parts (Some plan)) now
-      (ready_entry owner kind parts s.limits.page (length (pieces s.limits.page h)) views own)
-      (settled_row (Some plan) (built s.limits.page (builds s.limits.page h) owner.0 name kind parts (Some plan)).weight (length (pieces s.limits.page h)) parts)
+      (views own : List View) → 0 < (page_limit s)
+      → Adds s h later (built (page_limit s) (builds (page_limit s) h) owner.0 name kind parts (Some plan)) → ended later name ≡ None → IsReady plan
+      → AllByRecursion (λ (source : ℕ). named source (builds (page_limit s) h) ≡ true) (sources parts) → AreRanges now views parts
+      → AreBrought now (length (pieces (page_limit s) h)) (all_lengths (page_limit s) parts) own
+      → IsEntered s later (built (page_limit s) (builds (page_limit s) h) owner.0 name kind parts (Some plan)) now
+      (ready_entry owner kind parts (page_limit s) (length (pieces (page_limit s) h)) views own)
+      (settled_row (Some plan) (built (page_limit s) (builds (page_limit s) h) owner.0 name kind parts (Some plan)).weight (length (pieces (page_limit s) h))
+      parts)
   pub waits : (s : Session) (h later : History) (owner : RendererId) (name : ℕ) (kind : List ℕ) (parts : List Part) (n : ℕ) (now : List (Option Share))
-      (views : List View) → 0 < s.limits.page
-      → Adds s h later (built s.limits.page (builds s.limits.page h) owner.0 name kind parts (Some (plans.Shared n))) → ended later name ≡ None
-      → was_granted later name ≡ false → AllByRecursion (λ (source : ℕ). named source (builds s.limits.page h) ≡ true) (sources parts)
+      (views : List View) → 0 < (page_limit s)
+      → Adds s h later (built (page_limit s) (builds (page_limit s) h) owner.0 name kind parts (Some (plans.Shared n))) → ended later name ≡ None
+      → was_granted later name ≡ false → AllByRecursion (λ (source : ℕ). named source (builds (page_limit s) h) ≡ true) (sources parts)
       → AreRanges now views parts
-      → IsEntered s later (built s.limits.page (builds s.limits.page h) owner.0 name kind parts (Some (plans.Shared n))) now
-      (pending_entry owner kind parts s.limits.page (length (pieces s.limits.page h)) views statuses.PendingQuota)
-      (coming_row (Some (plans.Shared n)) (built s.limits.page (builds s.limits.page h) owner.0 name kind parts (Some (plans.Shared n))).weight
-      (length (pieces s.limits.page h)) parts waiting)
+      → IsEntered s later (built (page_limit s) (builds (page_limit s) h) owner.0 name kind parts (Some (plans.Shared n))) now
+      (pending_entry owner kind parts (page_limit s) (length (pieces (page_limit s) h)) views statuses.PendingQuota)
+      (coming_row (Some (plans.Shared n)) (built (page_limit s) (builds (page_limit s) h) owner.0 name kind parts (Some (plans.Shared n))).weight
+      (length (pieces (page_limit s) h)) parts waiting)
   pub writes : (s : Session) (h later : History) (owner : RendererId) (name : ℕ) (kind : List ℕ) (parts : List Part) (n : ℕ) (now : List (Option Share))
-      (views : List View) (slots : List ℕ) → 0 < s.limits.page
-      → Adds s h later (built s.limits.page (builds s.limits.page h) owner.0 name kind parts (Some (plans.File n))) → ended later name ≡ None
-      → arrivals later name ≡ [] → AllByRecursion (λ (source : ℕ). named source (builds s.limits.page h) ≡ true) (sources parts) → AreRanges now views parts
-      → 0 < length (spans s.limits (built s.limits.page (builds s.limits.page h) owner.0 name kind parts (Some (plans.File n))))
-      → map (piece_at now) slots ≡ map (λ (number : ℕ). Some number) (own_pieces s.limits.page later name)
-      → IsEntered s later (built s.limits.page (builds s.limits.page h) owner.0 name kind parts (Some (plans.File n))) now
-      (pending_entry owner kind parts s.limits.page (length (pieces s.limits.page h)) views statuses.PendingTransport)
-      (coming_row (Some (plans.File n)) (built s.limits.page (builds s.limits.page h) owner.0 name kind parts (Some (plans.File n))).weight
-      (length (pieces s.limits.page h)) parts
+      (views : List View) (slots : List ℕ) → 0 < (page_limit s)
+      → Adds s h later (built (page_limit s) (builds (page_limit s) h) owner.0 name kind parts (Some (plans.File n))) → ended later name ≡ None
+      → arrivals later name ≡ [] → AllByRecursion (λ (source : ℕ). named source (builds (page_limit s) h) ≡ true) (sources parts) → AreRanges now views parts
+      → 0 < length (spans s.limits (built (page_limit s) (builds (page_limit s) h) owner.0 name kind parts (Some (plans.File n))))
+      → map (piece_at now) slots ≡ map (λ (number : ℕ). Some number) (own_pieces (page_limit s) later name)
+      → IsEntered s later (built (page_limit s) (builds (page_limit s) h) owner.0 name kind parts (Some (plans.File n))) now
+      (pending_entry owner kind parts (page_limit s) (length (pieces (page_limit s) h)) views statuses.PendingTransport)
+      (coming_row (Some (plans.File n)) (built (page_limit s) (builds (page_limit s) h) owner.0 name kind parts (Some (plans.File n))).weight
+      (length (pieces (page_limit s) h)) parts
       (writing slots (map (λ (segment : ℕ). false)
-      (range_with_len 0 (length (spans s.limits (built s.limits.page (builds s.limits.page h) owner.0 name kind parts (Some (plans.File n)))))))))
+      (range_with_len 0 (length (spans s.limits (built (page_limit s) (builds (page_limit s) h) owner.0 name kind parts (Some (plans.File n)))))))))

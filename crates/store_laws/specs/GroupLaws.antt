@@ -4,7 +4,7 @@ use Rattle.blob_words.specs.declared.tally.Tally.{Tally}
 use Rattle.session_script.specs.declared.event.Event.{Event}
 use Rattle.answer_text.specs.declared.answer.Answer.{Answer}
 use Rattle.answer_text.specs.declared.group.Group.{Group}
-use Rattle.blob_model.specs.Session.{Session}
+use Rattle.blob_model.specs.Session.{Session, page_limit}
 use Rattle.blob_model.specs.History.{History, after, has_ended, history_from, start}
 use Rattle.blob_model.specs.Legal.{IsLegalFrom, IsLegalGroup, left_files}
 use Rattle.blob_model.specs.Live.{is_live, live}
@@ -27,18 +27,18 @@ pub record MakesGroup (s : Session) (h : History) (event : Event) (own removed :
 abbrev pub GroupLegal : Type 0
 GroupLegal =
     (s : Session) (h : History) (event : Event) (own removed : List Answer) (counted : Tally) → Hears s h event own removed → has_ended h ≡ false
-    → counted ≡ tally s.limits.page (after_all s removed (after h event own))
+    → counted ≡ tally (page_limit s) (after_all s removed (after h event own))
     → MakesGroup s h event own removed counted
 
 -- the lists behind the drops of list 3 change no life
 abbrev pub LateListsKeepLives : Type 0
 LateListsKeepLives =
     (s : Session) (h : History) (removed : List Answer) → removed ≡ removals s (left_files removed) (after_late_drops s h)
-    → live s.limits.page (after_all s removed h) ≡ live s.limits.page (after_late_drops s h)
+    → live (page_limit s) (after_all s removed h) ≡ live (page_limit s) (after_late_drops s h)
 
 -- in a legal transcript, whatever lives after a line's own answers lived before the line or was built by it
 abbrev pub OwnLives : Type 0
 OwnLives =
     (s : Session) (groups : List Group) (event : Event) (own : List Answer) → IsLegalFrom s start groups → IsOwn s (history_from start groups) event own
-    → (name : ℕ) → is_live s.limits.page (after (history_from start groups) event own) name ≡ true
-    → stood s.limits.page (history_from start groups) event own name ≡ true
+    → (name : ℕ) → is_live (page_limit s) (after (history_from start groups) event own) name ≡ true
+    → stood (page_limit s) (history_from start groups) event own name ≡ true

@@ -22,7 +22,7 @@ use Rattle.blob_model.specs.Builds.{Build}
 use Rattle.blob_model.specs.History.{History}
 use Rattle.blob_model.specs.Parts.{own_bytes}
 use Rattle.blob_model.specs.Pieces.{Piece}
-use Rattle.blob_model.specs.Session.{Session}
+use Rattle.blob_model.specs.Session.{Session, page_limit}
 use Rattle.blob_model.specs.Settle.{drops}
 use Rattle.blob_model.specs.Waits.{waits}
 use Rattle.registry_laws.specs.Laws.{Describes}
@@ -88,7 +88,7 @@ ItemsLetGo =
 abbrev pub QueueLetGo : Type 0
 QueueLetGo =
     (s : Session) (h : History) (book : Book) (waiting : List (ℕ × ℕ)) (names : List ℕ) → Describes s h book
-    → waiting ≡ map (λ (build : Build). (build.name, own_bytes build.parts)) (waits s.limits.page h)
+    → waiting ≡ map (λ (build : Build). (build.name, own_bytes build.parts)) (waits (page_limit s) h)
     → map (λ (name : ℕ). answers.Dropped name) names ≡ drops s h
     → fold (λ (list : List (ℕ × ℕ)) (name : ℕ). unqueued name list) waiting names
-    ≡ map (λ (build : Build). (build.name, own_bytes build.parts)) (waits s.limits.page (after_drops s h))
+    ≡ map (λ (build : Build). (build.name, own_bytes build.parts)) (waits (page_limit s) (after_drops s h))

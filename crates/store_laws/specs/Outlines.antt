@@ -4,7 +4,7 @@ use Rattle.std.specs.Option.{option_map}
 use Rattle.blob_words.specs.declared.status.Status.{Status}
 use Rattle.blob_entries.specs.Statuses.{is_pending}
 use Rattle.blob_entries.specs.declared.entry.Entry.{Entry}
-use Rattle.blob_model.specs.Session.{Session}
+use Rattle.blob_model.specs.Session.{Session, page_limit}
 use Rattle.blob_model.specs.History.{History}
 use Rattle.blob_model.specs.Builds.{Build, builds, size}
 use Rattle.blob_model.specs.Own.{pending_status}
@@ -30,7 +30,7 @@ outline_of s h build = record { owner = build.builder; size = size build; kind =
 
 -- the outlines of the blobs of these names, each under its build number
 abbrev pub outlines_of : Session → History → (ℕ → Bool) → List (Option Outline)
-outlines_of s h stands = map (λ (build : Build). if stands build.name then Some (outline_of s h build) else None) (builds s.limits.page h)
+outlines_of s h stands = map (λ (build : Build). if stands build.name then Some (outline_of s h build) else None) (builds (page_limit s) h)
 
 abbrev pub outlines : List (Option Entry) → List (Option Outline)
 outlines entries = map (option_map outline) entries

@@ -9,7 +9,7 @@ use Rattle.item_shares.specs.Shares.{item_at}
 use Rattle.page_files.specs.Files.{Files, charge}
 use Rattle.page_files.specs.Pages.{held_count}
 use Rattle.quota_queue.specs.Queue.{Queue}
-use Rattle.blob_model.specs.Session.{Session}
+use Rattle.blob_model.specs.Session.{Session, page_limit}
 use Rattle.answer_text.specs.declared.group.Group.{Group}
 use Rattle.blob_model.specs.History.{History, history_from, start}
 use Rattle.blob_model.specs.Legal.{IsLegalFrom}
@@ -44,8 +44,8 @@ IsUnasked removed item = Unit {0}
 pub record ArePaged (s : Session) (h : History) (shares : List (Option Share)) (rows : List (Option Row)) : Type 0 where
   pub in_turn : pages h ≡ numbered_pages 0 (writes h)
   pub unasked : (slot : ℕ) → IfSome (item_at shares slot) (IsUnasked (asked h))
-  pub unnamed : AllByRecursion (λ (piece : Piece). is_gathered (builds s.limits.page h) rows piece.blob ≡ true
-      → is_in_job h piece.number ≡ false) (pieces s.limits.page h)
+  pub unnamed : AllByRecursion (λ (piece : Piece). is_gathered (builds (page_limit s) h) rows piece.blob ≡ true
+      → is_in_job h piece.number ≡ false) (pieces (page_limit s) h)
 
 pub record DiskIsTold (page : ℕ) (h : History) (files : Files) : Type 0 where
   pub charged : charge files ≡ disk page h
@@ -55,5 +55,5 @@ pub record DiskIsTold (page : ℕ) (h : History) (files : Files) : Type 0 where
 abbrev pub DiskIsCharged : Type 0
 DiskIsCharged =
     (s : Session) (h : History) (stands : ℕ → Bool) (book : Book) (shares : List (Option Share)) (rows : List (Option Row)) (quota : Queue) (files : Files)
-    (order : List (ℕ × ℕ)) → ContentsStand s h stands book shares rows quota files order → AreExact s h stands → IsAtRest s.limits.page h
-    → IsCounted book shares rows → AreGatheredApart s h shares rows → ArePaged s h shares rows → DiskIsTold s.limits.page h files
+    (order : List (ℕ × ℕ)) → ContentsStand s h stands book shares rows quota files order → AreExact s h stands → IsAtRest (page_limit s) h
+    → IsCounted book shares rows → AreGatheredApart s h shares rows → ArePaged s h shares rows → DiskIsTold (page_limit s) h files

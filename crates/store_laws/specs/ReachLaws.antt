@@ -8,7 +8,7 @@ use Rattle.item_shares.specs.declared.shares.Share.{Share}
 use Rattle.item_shares.specs.Shares.{AreViewed}
 use Rattle.page_files.specs.Files.{Files}
 use Rattle.quota_queue.specs.Queue.{Queue}
-use Rattle.blob_model.specs.Session.{Session}
+use Rattle.blob_model.specs.Session.{Session, page_limit}
 use Rattle.answer_text.specs.declared.group.Group.{Group}
 use Rattle.blob_model.specs.History.{History, history_from, start}
 use Rattle.blob_model.specs.Legal.{IsLegalFrom}
@@ -47,35 +47,35 @@ pub record IsCounted (book : Book) (shares : List (Option Share)) (rows : List (
 abbrev pub HeldIsReached : Type 0
 HeldIsReached =
     (s : Session) (h : History) (stands : ℕ → Bool) (book : Book) (shares : List (Option Share)) (rows : List (Option Row)) (quota : Queue) (files : Files)
-    (order : List (ℕ × ℕ)) → ContentsStand s h stands book shares rows quota files order → AreExact s h stands → IsAtRest s.limits.page h
-    → IsCounted book shares rows → held_pieces s.limits.page h shares rows ≡ reached s.limits.page h
+    (order : List (ℕ × ℕ)) → ContentsStand s h stands book shares rows quota files order → AreExact s h stands → IsAtRest (page_limit s) h
+    → IsCounted book shares rows → held_pieces (page_limit s) h shares rows ≡ reached (page_limit s) h
 
 -- a piece whose bytes are gathered is no item, and its place is memory
 abbrev pub IsApart : Session → History → List (Option Share) → List (Option Row) → Piece → Type 0
 IsApart s h shares rows piece =
-    is_gathered (builds s.limits.page h) rows piece.blob ≡ true → (holds_piece shares piece.number ≡ false) × (place s.limits.page h piece ≡ in_memory)
+    is_gathered (builds (page_limit s) h) rows piece.blob ≡ true → (holds_piece shares piece.number ≡ false) × (place (page_limit s) h piece ≡ in_memory)
 
 abbrev pub AreGatheredApart : Session → History → List (Option Share) → List (Option Row) → Type 0
-AreGatheredApart s h shares rows = AllByRecursion (IsApart s h shares rows) (pieces s.limits.page h)
+AreGatheredApart s h shares rows = AllByRecursion (IsApart s h shares rows) (pieces (page_limit s) h)
 
 -- the bytes of items in memory and those that are gathered are the bytes of the reached pieces in memory, and the reserved ones those reserved
 pub record ChargesAre (s : Session) (h : History) (shares : List (Option Share)) (rows : List (Option Row)) : Type 0 where
-  pub used : weights memory_weight shares + gathered rows ≡ memory s.limits.page h
-  pub reserved_bytes : weights reserved_weight shares ≡ bytes_of (reserved_of h (builds s.limits.page h) (reached s.limits.page h))
+  pub used : weights memory_weight shares + gathered rows ≡ memory (page_limit s) h
+  pub reserved_bytes : weights reserved_weight shares ≡ bytes_of (reserved_of h (builds (page_limit s) h) (reached (page_limit s) h))
 
 abbrev pub ChargesAreTold : Type 0
 ChargesAreTold =
     (s : Session) (h : History) (stands : ℕ → Bool) (book : Book) (shares : List (Option Share)) (rows : List (Option Row)) (quota : Queue) (files : Files)
-    (order : List (ℕ × ℕ)) → ContentsStand s h stands book shares rows quota files order → AreExact s h stands → IsAtRest s.limits.page h
+    (order : List (ℕ × ℕ)) → ContentsStand s h stands book shares rows quota files order → AreExact s h stands → IsAtRest (page_limit s) h
     → IsCounted book shares rows → AreGatheredApart s h shares rows → ChargesAre s h shares rows
 
 -- behind each group of a legal transcript the history is at rest
 abbrev pub SettledRests : Type 0
-SettledRests = (s : Session) (groups : List Group) → IsLegalFrom s start groups → IsAtRest s.limits.page (history_from start groups)
+SettledRests = (s : Session) (groups : List Group) → IsLegalFrom s start groups → IsAtRest (page_limit s) (history_from start groups)
 
 -- the data handles that items hold are those reached
 abbrev pub SlotsAreReached : Type 0
 SlotsAreReached =
     (s : Session) (h : History) (stands : ℕ → Bool) (book : Book) (shares : List (Option Share)) (rows : List (Option Row)) (quota : Queue) (files : Files)
-    (order : List (ℕ × ℕ)) → ContentsStand s h stands book shares rows quota files order → AreExact s h stands → IsAtRest s.limits.page h
-    → IsCounted book shares rows → (k : ℕ) → holds_slot shares k ≡ is_slot_reached s.limits.page h k
+    (order : List (ℕ × ℕ)) → ContentsStand s h stands book shares rows quota files order → AreExact s h stands → IsAtRest (page_limit s) h
+    → IsCounted book shares rows → (k : ℕ) → holds_slot shares k ≡ is_slot_reached (page_limit s) h k

@@ -10,7 +10,7 @@ use Rattle.item_shares.specs.declared.shares.Share.{Share}
 use Rattle.blob_entries.specs.declared.entry.Entry.{Entry}
 use Rattle.blob_entries.specs.Counts.{count_at}
 use Rattle.blob_entries.specs.Holdings.{views_in}
-use Rattle.blob_model.specs.Session.{Session}
+use Rattle.blob_model.specs.Session.{Session, page_limit}
 use Rattle.blob_model.specs.History.{History}
 use Rattle.blob_model.specs.Parts.{own_lengths}
 use Rattle.blob_model.specs.Builds.{Build, builds}
@@ -54,7 +54,7 @@ came_of s h build = map (λ (segment : ℕ). has_come (arrivals h build.name) se
 
 abbrev pub gathered_of : Session → History → Build → Sending
 gathered_of s h build =
-    record { parts = own_lengths build.parts; segment = s.limits.segment; page = s.limits.page; taken = segments_of s h build }
+    record { parts = own_lengths build.parts; segment = s.limits.segment; page = page_limit s; taken = segments_of s h build }
 
 abbrev pub coming_by : Session → History → Build → Option Plan → Coming
 coming_by s h build (Some (plans.Shared n)) =
@@ -75,14 +75,14 @@ abbrev pub row_of : Session → History → Build → Row
 row_of s h build = record {
   plan = build.plan;
   weight = build.weight;
-  first = pieces_before s.limits.page (builds s.limits.page h) build.name;
+  first = pieces_before (page_limit s) (builds (page_limit s) h) build.name;
   lengths = own_lengths build.parts;
   coming = coming_of s h build;
 }
 
 -- the rows of the blobs of these names, each under its build number
 abbrev pub rows_of : Session → History → (ℕ → Bool) → List (Option Row)
-rows_of s h stands = map (λ (build : Build). if stands build.name then Some (row_of s h build) else None) (builds s.limits.page h)
+rows_of s h stands = map (λ (build : Build). if stands build.name then Some (row_of s h build) else None) (builds (page_limit s) h)
 
 -- ---- pieces on their way to page files
 

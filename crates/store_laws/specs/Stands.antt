@@ -20,7 +20,7 @@ use Rattle.page_files.specs.Pages.{held_count}
 use Rattle.quota_queue.specs.Queue.{Queue}
 use Rattle.renderer_table.specs.Table.{Table}
 use Rattle.url_store.specs.declared.url.Url.{Url}
-use Rattle.blob_model.specs.Session.{Session}
+use Rattle.blob_model.specs.Session.{Session, page_limit}
 use Rattle.blob_model.specs.History.{History, start, heard, refused, said}
 use Rattle.blob_model.specs.Builds.{Build, builds}
 use Rattle.blob_model.specs.Jobs.{paging}
@@ -72,15 +72,15 @@ lines (said h answer) = lines h
 pub record ContentsStand (s : Session) (h : History) (stands : ℕ → Bool) (book : Book) (shares : List (Option Share)) (rows : List (Option Row))
     (quota : Queue) (files : Files)
     (order : List (ℕ × ℕ)) : Type 0 where
-  pub names : book.names ≡ map (λ (build : Build). build.name) (builds s.limits.page h)
+  pub names : book.names ≡ map (λ (build : Build). build.name) (builds (page_limit s) h)
   pub outlines_stand : outlines book.entries ≡ outlines_of s h stands
-  pub marks : Beside (IsMarkedRight s h) (builds s.limits.page h) book.entries
+  pub marks : Beside (IsMarkedRight s h) (builds (page_limit s) h) book.entries
   pub rows_stand : map (option_map bare) rows ≡ rows_of s h stands
-  pub items : ItemsStand (pieces s.limits.page h) (facts_of s h) shares
-  pub entries : EntriesStand (builds s.limits.page h) (pieces s.limits.page h) (own_pieces s.limits.page h) shares book.entries rows
-  pub waiting : quota.waiting ≡ map (λ (build : Build). (build.name, own_bytes build.parts)) (waits s.limits.page h)
+  pub items : ItemsStand (pieces (page_limit s) h) (facts_of s h) shares
+  pub entries : EntriesStand (builds (page_limit s) h) (pieces (page_limit s) h) (own_pieces (page_limit s) h) shares book.entries rows
+  pub waiting : quota.waiting ≡ map (λ (build : Build). (build.name, own_bytes build.parts)) (waits (page_limit s) h)
   pub memory_limit : quota.limit ≡ s.limits.memory
-  pub page_files_stand : PagesStand (pieces s.limits.page h) (page_facts_of h) s.limits.disk shares files
+  pub page_files_stand : PagesStand (pieces (page_limit s) h) (page_facts_of h) s.limits.disk shares files
   pub recent : paging h ≡ true → order ≡ order_of s h shares rows
 
 -- between any two steps of a line, while the blobs of these names stand
@@ -92,7 +92,7 @@ pub record Between (s : Session) (h : History) (stands : ℕ → Bool) (parts : 
   pub handles : HandlesStand s.outside.slots (λ (k : ℕ). is_in k (claimed s h)) (holds_slot parts.shares) table
   pub disk_stands : DiskStands s h told
   pub same_lines : parts.lines ≡ lines h + 1
-  pub same_pieces : parts.pieces ≡ length (pieces s.limits.page h)
+  pub same_pieces : parts.pieces ≡ length (pieces (page_limit s) h)
   pub same_weight : parts.weight ≡ weight_total s h
 
 -- ---- which blobs stand
@@ -110,12 +110,12 @@ stood page h event own name = is_built_by event own name || is_live page h name
 
 -- whatever lives stands, and whatever is unfinished
 pub record Covers (s : Session) (h : History) (stands : ℕ → Bool) : Type 0 where
-  pub living : (name : ℕ) → is_live s.limits.page h name ≡ true → stands name ≡ true
-  pub unfinished : AllByRecursion (λ (build : Build). is_unfinished h build.name ≡ true → stands build.name ≡ true) (builds s.limits.page h)
+  pub living : (name : ℕ) → is_live (page_limit s) h name ≡ true → stands name ≡ true
+  pub unfinished : AllByRecursion (λ (build : Build). is_unfinished h build.name ≡ true → stands build.name ≡ true) (builds (page_limit s) h)
 
 -- the live blobs stand, and no others
 abbrev pub AreExact : Session → History → (ℕ → Bool) → Type 0
-AreExact s h stands = (name : ℕ) → stands name ≡ is_live s.limits.page h name
+AreExact s h stands = (name : ℕ) → stands name ≡ is_live (page_limit s) h name
 
 -- ---- between two lines
 
@@ -126,14 +126,14 @@ AreEmptied entries =
 
 -- what is held is what is reached, and is charged so
 pub record Reaches (s : Session) (h : History) (shares : List (Option Share)) (rows : List (Option Row)) (quota : Queue) (files : Files) : Type 0 where
-  pub held : held_pieces s.limits.page h shares rows ≡ reached s.limits.page h
-  pub slots : (k : ℕ) → holds_slot shares k ≡ is_slot_reached s.limits.page h k
-  pub used : quota.used ≡ memory s.limits.page h
-  pub charged : charge files ≡ disk s.limits.page h
-  pub many : held_count files.pages ≡ length (page_files s.limits.page h)
+  pub held : held_pieces (page_limit s) h shares rows ≡ reached (page_limit s) h
+  pub slots : (k : ℕ) → holds_slot shares k ≡ is_slot_reached (page_limit s) h k
+  pub used : quota.used ≡ memory (page_limit s) h
+  pub charged : charge files ≡ disk (page_limit s) h
+  pub many : held_count files.pages ≡ length (page_files (page_limit s) h)
 
 -- the parts of a store, its disk and its table of data handles stand for a history
 pub record Stands (s : Session) (h : History) (parts : Parts) (told : Option (List Change)) (table : HandleTable) : Type 0 where
-  pub between : Between s h (is_live s.limits.page h) parts told table
+  pub between : Between s h (is_live (page_limit s) h) parts told table
   pub emptied : AreEmptied parts.book.entries
   pub reaches : Reaches s h parts.shares parts.rows parts.quota parts.pages

@@ -15,7 +15,7 @@ use Rattle.blob_model.specs.Builds.{Build, builds}
 use Rattle.blob_model.specs.History.{History}
 use Rattle.blob_model.specs.Live.{is_live}
 use Rattle.blob_model.specs.Pieces.{pieces}
-use Rattle.blob_model.specs.Session.{Session}
+use Rattle.blob_model.specs.Session.{Session, page_limit}
 use Rattle.registry_laws.specs.Agree.{Beside}
 use Rattle.registry_laws.specs.Laws.{Describes}
 use Rattle.store_laws.specs.Items.{ItemsStand}
@@ -46,23 +46,23 @@ pub record AreKept (entries : List (Option Entry)) (rows : List (Option Row)) (s
 
 -- entries, rows and items stand for the history, while the blobs of these names stand
 pub record EntriesAre (s : Session) (h : History) (stands : ℕ → Bool) (book : Book) (shares : List (Option Share)) (rows : List (Option Row)) : Type 0 where
-  pub names : book.names ≡ map (λ (build : Build). build.name) (builds s.limits.page h)
+  pub names : book.names ≡ map (λ (build : Build). build.name) (builds (page_limit s) h)
   pub outlines_stand : outlines book.entries ≡ outlines_of s h stands
-  pub marks : Beside (IsMarkedRight s h) (builds s.limits.page h) book.entries
+  pub marks : Beside (IsMarkedRight s h) (builds (page_limit s) h) book.entries
   pub rows_stand : map (option_map bare) rows ≡ rows_of s h stands
-  pub items : ItemsStand (pieces s.limits.page h) (facts_of s h) shares
-  pub entries : EntriesStand (builds s.limits.page h) (pieces s.limits.page h) (own_pieces s.limits.page h) shares book.entries rows
+  pub items : ItemsStand (pieces (page_limit s) h) (facts_of s h) shares
+  pub entries : EntriesStand (builds (page_limit s) h) (pieces (page_limit s) h) (own_pieces (page_limit s) h) shares book.entries rows
 
 -- a sweep leaves the live blobs, and behind the drops what is left of entries, rows and items stands for them
 pub record SweepLeavesLive : Type 0 where
   pub live_left : (s : Session) (h : History) (book : Book) → Describes s h book
-      → swept book.names 0 book.entries ≡ entries_left (is_live s.limits.page h) (builds s.limits.page h) book.entries
+      → swept book.names 0 book.entries ≡ entries_left (is_live (page_limit s) h) (builds (page_limit s) h) book.entries
   pub left_stand : (s : Session) (h : History) (stands : ℕ → Bool) (book : Book) (shares : List (Option Share)) (rows : List (Option Row)) (quota : Queue)
       (files : Files) (order : List (ℕ × ℕ)) → ContentsStand s h stands book shares rows quota files order → Describes s h book
-      → ((name : ℕ) → is_live s.limits.page h name ≡ true → stands name ≡ true) → (later : List (Option Share))
-      → AreKept (entries_left (is_live s.limits.page h) (builds s.limits.page h) book.entries)
-      (rows_left (is_live s.limits.page h) (builds s.limits.page h) rows)
+      → ((name : ℕ) → is_live (page_limit s) h name ≡ true → stands name ≡ true) → (later : List (Option Share))
+      → AreKept (entries_left (is_live (page_limit s) h) (builds (page_limit s) h) book.entries)
+      (rows_left (is_live (page_limit s) h) (builds (page_limit s) h) rows)
       shares later
-      → EntriesAre s (after_drops s h) (is_live s.limits.page h)
-      (book_of book.names (entries_left (is_live s.limits.page h) (builds s.limits.page h) book.entries)) later
-      (rows_left (is_live s.limits.page h) (builds s.limits.page h) rows)
+      → EntriesAre s (after_drops s h) (is_live (page_limit s) h)
+      (book_of book.names (entries_left (is_live (page_limit s) h) (builds (page_limit s) h) book.entries)) later
+      (rows_left (is_live (page_limit s) h) (builds (page_limit s) h) rows)

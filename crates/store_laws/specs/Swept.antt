@@ -15,7 +15,7 @@ use Rattle.quota_queue.specs.Queue.{Queue, without}
 use Rattle.blob_model.specs.Builds.{builds}
 use Rattle.blob_model.specs.History.{History}
 use Rattle.blob_model.specs.Live.{is_live}
-use Rattle.blob_model.specs.Session.{Session}
+use Rattle.blob_model.specs.Session.{Session, page_limit}
 use Rattle.blob_model.specs.Settle.{drops}
 use Rattle.registry_laws.specs.Laws.{Describes}
 use Rattle.store_laws.specs.LetGo.{left_by, let_go_by}
@@ -34,9 +34,9 @@ abbrev pub SweptStands : Type 0
 SweptStands =
     (s : Session) (h : History) (stands : ℕ → Bool) (book : Book) (shares : List (Option Share)) (rows : List (Option Row)) (quota : Queue) (files : Files)
     (order : List (ℕ × ℕ)) → ContentsStand s h stands book shares rows quota files order → Describes s h book
-    → ((name : ℕ) → is_live s.limits.page h name ≡ true → stands name ≡ true) → (views : List View) (later : List (Option Share)) (freed : List Item)
+    → ((name : ℕ) → is_live (page_limit s) h name ≡ true → stands name ≡ true) → (views : List View) (later : List (Option Share)) (freed : List Item)
     → LetsGo views shares later [] freed → AreViewed later
     → ((slot : ℕ) → count_at later slot ≡ views_in (swept book.names 0 book.entries) slot + pins slot rows) → (names : List ℕ)
     → map (λ (name : ℕ). answers.Dropped name) names ≡ drops s h → (used : ℕ)
-    → ContentsStand s (after_drops s h) (is_live s.limits.page h) (book_of book.names (swept book.names 0 book.entries)) later
-    (rows_left (is_live s.limits.page h) (builds s.limits.page h) rows) (queue_left quota names used) (fold let_go_by files freed) (fold left_by order freed)
+    → ContentsStand s (after_drops s h) (is_live (page_limit s) h) (book_of book.names (swept book.names 0 book.entries)) later
+    (rows_left (is_live (page_limit s) h) (builds (page_limit s) h) rows) (queue_left quota names used) (fold let_go_by files freed) (fold left_by order freed)

@@ -25,7 +25,7 @@ use Rattle.url_store.specs.declared.url.Url.{Url}
 use Rattle.blob_model.specs.History.{History, heard}
 use Rattle.blob_model.specs.Readers.{OpenReader}
 use Rattle.blob_model.specs.Renderers.{origin_of}
-use Rattle.blob_model.specs.Session.{Session}
+use Rattle.blob_model.specs.Session.{Session, page_limit}
 use Rattle.store_laws.specs.Apart.{AreReadersApart, AreUrlsApart}
 use Rattle.store_laws.specs.LineLaws.{counted, AreUnmarked, IsKeptBy}
 use Rattle.store_laws.specs.Roots.{AreRerooted}
@@ -104,7 +104,7 @@ GoneStands = WhereStanding (λ s h stands parts told table.
 -- a reader is closed, and its blob has one root fewer
 abbrev pub CancelStands : Type 0
 CancelStands = WhereStanding (λ s h stands parts told table.
-    AreReadersApart s.limits.page h → (renderer : RendererId) (reader : ReaderId) (name : ℕ) (readers : List (ℕ × OpenReader))
+    AreReadersApart (page_limit s) h → (renderer : RendererId) (reader : ReaderId) (name : ℕ) (readers : List (ℕ × OpenReader))
     → ReaderGoes reader.0 parts.readers readers
     → Between s (heard h (events.Cancel renderer reader) answers.Good) stands
     (counted (record parts { book = changed parts.book name held_less; readers = readers })) told table)
@@ -144,7 +144,7 @@ pub record Departs (id : ℕ) (old new : Table) : Type 0 where
 
 abbrev pub DieStands : Type 0
 DieStands = WhereStanding (λ s h stands parts told table.
-    AreUrlsApart h → AreReadersApart s.limits.page h → (renderer : RendererId) (book : Book) (renderers : Table) (urls : List (List ℕ × Url))
+    AreUrlsApart h → AreReadersApart (page_limit s) h → (renderer : RendererId) (book : Book) (renderers : Table) (urls : List (List ℕ × Url))
     (readers : List (ℕ × OpenReader)) → AreRerooted parts.book book → Departs renderer.0 parts.renderers renderers → UrlsLeave renderer.0 parts.urls urls
     → ReadersLeave renderer.0 parts.readers readers
     → Between s (heard h (events.Die renderer) answers.Good) stands

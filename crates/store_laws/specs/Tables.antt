@@ -14,7 +14,7 @@ use Rattle.file_table.specs.declared.file_note.FileNote.{FileNote}
 use Rattle.data_handles.specs.Handles.{Handle}
 use Rattle.data_handles.specs.Table.{Slot as TableSlot, Table as HandleTable, slot_at}
 use Rattle.page_disk.specs.declared.change.Change.{Change}
-use Rattle.blob_model.specs.Session.{Session, Slot}
+use Rattle.blob_model.specs.Session.{Session, Slot, page_limit}
 use Rattle.blob_model.specs.History.{History}
 use Rattle.blob_model.specs.Renderers.{Renderer, spawned, is_alive, origin_of}
 use Rattle.blob_model.specs.Recorded.{FileState, recorded, last_stamp, file_names}
@@ -56,7 +56,7 @@ pub record TablesStand (s : Session) (h : History) (table : Table) (urls : List 
   pub renderers : RenderersStand (spawned h) (is_alive h) (origin_of h) (count h) table
   pub urls_stand : UrlsStand (entries h) (origin_of h) urls
   pub files_stand : FilesStand (file_names h) (recorded h) (last_stamp h) files
-  pub readers_stand : ReadersStand (readers s.limits.page h) open_readers
+  pub readers_stand : ReadersStand (readers (page_limit s) h) open_readers
 
 -- an object tells the size and the bytes that it told at first
 abbrev pub seen_as : Handle → ℕ × Option (List ℕ)

@@ -8,7 +8,7 @@ use Rattle.range_reader.specs.Bytes.{item_byte, item_fails, origins}
 use Rattle.range_reader.specs.Places.{Lies}
 use Rattle.blob_model.specs.History.{History}
 use Rattle.blob_model.specs.Pieces.{pieces}
-use Rattle.blob_model.specs.Session.{Session}
+use Rattle.blob_model.specs.Session.{Session, page_limit}
 use Rattle.blob_model.specs.Value.{agrees}
 use Rattle.store_laws.specs.BuildLaws.{IsUnpaged}
 use Rattle.store_laws.specs.Cells.{item_cell}
@@ -20,4 +20,4 @@ TellsCells =
     (s : Session) (h : History) (stands : ℕ → Bool) (parts : Parts) (told : Option (List Change)) (table : HandleTable) → Between s h stands parts told table
     → (slot place byte : ℕ) (item : Item) → item_at parts.shares slot ≡ Some item → IsUnpaged item → Lies (origins parts.files told table) place 1 item
     → item_fails parts.files place item ≡ false → IfSome (item_byte (origins parts.files told table) place item) (λ (known : ℕ). byte ≡ known)
-    → agrees s h (item_cell (pieces s.limits.page h) item place) byte ≡ true
+    → agrees s h (item_cell (pieces (page_limit s) h) item place) byte ≡ true

@@ -1,7 +1,7 @@
 -- Which pieces are held, and the order of their use. Own.
 use Rattle.std.specs.Prelude.{ℕ, ◌&&◌, ◌||◌, Bool, not, List, map, filter, filter_map, Option, None, Some}
 use Rattle.item_shares.specs.declared.shares.Share.{Share}
-use Rattle.blob_model.specs.Session.{Session}
+use Rattle.blob_model.specs.Session.{Session, page_limit}
 use Rattle.blob_model.specs.History.{History}
 use Rattle.blob_model.specs.Builds.{Build, builds}
 use Rattle.blob_model.specs.Changes.{piece_bytes}
@@ -24,10 +24,10 @@ offset_in all (Some page) number = offset all page number
 -- what a history says of pieces and of page files
 abbrev pub facts_of : Session → History → Facts
 facts_of s h = record {
-  granted = λ (piece : Piece). is_granted_piece h (builds s.limits.page h) piece;
-  place = λ (piece : Piece). place s.limits.page h piece;
+  granted = λ (piece : Piece). is_granted_piece h (builds (page_limit s) h) piece;
+  place = λ (piece : Piece). place (page_limit s) h piece;
   bytes = λ (piece : Piece). piece_bytes s h piece;
-  offset = λ (piece : Piece). offset_in (pieces s.limits.page h) (page_with (pages h) piece.number) piece.number;
+  offset = λ (piece : Piece). offset_in (pieces (page_limit s) h) (page_with (pages h) piece.number) piece.number;
 }
 
 abbrev pub page_facts_of : History → PageFacts
@@ -49,4 +49,4 @@ abbrev pub pageable_of : ℕ → History → List Piece → List Piece
 pageable_of page h list = filter (λ (piece : Piece). is_done h piece.blob && not (is_in_job h piece.number)) (in_memory_of h (builds page h) list)
 
 abbrev pub order_of : Session → History → List (Option Share) → List (Option Row) → List (ℕ × ℕ)
-order_of s h shares rows = filter_map (with_length (pageable_of s.limits.page h (held_pieces s.limits.page h shares rows))) (last_uses s.limits h)
+order_of s h shares rows = filter_map (with_length (pageable_of (page_limit s) h (held_pieces (page_limit s) h shares rows))) (last_uses s.limits h)

@@ -4,7 +4,7 @@ use Rattle.blob_words.specs.declared.tally.Tally.{Tally}
 use Rattle.session_script.specs.declared.event.Event.{Event}
 use Rattle.answer_text.specs.declared.answer.Answer.{Answer}
 use Rattle.answer_text.specs.declared.group.Group.{Group}
-use Rattle.blob_model.specs.Session.{Session}
+use Rattle.blob_model.specs.Session.{Session, page_limit}
 use Rattle.blob_model.specs.History.{History, said_all, heard_first, after, has_ended}
 use Rattle.blob_model.specs.Tally.{tally}
 use Rattle.blob_model.specs.Settle.{settle}
@@ -29,7 +29,8 @@ front_and_rest (x ∷ xs) zero = refl
 front_and_rest (x ∷ xs) (suc n) = ap (λ (more : List Answer). x ∷ more) (front_and_rest xs n)
 
 -- the own answers of a legal group are as many as its line has
-own_told : (s : Session) (h : History) (group : Group) (n : ℕ) → n ≡ own_count s h group.event → (legal : IsLegalGroup s h group) → take n group.answers ≡ legal.own
+own_told : (s : Session) (h : History) (group : Group) (n : ℕ) → n ≡ own_count s h group.event → (legal : IsLegalGroup s h group) → take n group.answers
+    ≡ legal.own
 own_told s h group n count legal =
     let size : n ≡ length legal.own = count ∙ sym (own_long legal.own s h group.event legal.is_own) in
     let rest = settle s (left_files group.answers) (after h group.event legal.own) in
@@ -61,9 +62,10 @@ after_append : (h : History) (event : Event) (xs ys : List Answer) (n : ℕ) →
 after_append h event [] ys n long = absurd (omega (arith, long))
 after_append h event (x ∷ xs) ys n long = said_append (heard_first h event x) xs ys
 
-pub legal_where : (s : Session) (h : History) (group : Group) (n : ℕ) (owed : List Answer) → has_ended h ≡ false → OwnFound s h group.event group.answers (Some n)
+pub legal_where : (s : Session) (h : History) (group : Group) (n : ℕ) (owed : List Answer) → has_ended h ≡ false → OwnFound s h group.event group.answers
+    (Some n)
     → owed ≡ settle s (left_files group.answers) (after h group.event (take n group.answers)) → drop n group.answers ≡ owed
-    → group.tally ≡ tally s.limits.page (after h group.event group.answers) → IsLegalGroup s h group
+    → group.tally ≡ tally (page_limit s) (after h group.event group.answers) → IsLegalGroup s h group
 legal_where s h group n owed going found same rest counts = record {
   open_still = going;
   own = take n group.answers;

@@ -12,7 +12,7 @@ use Rattle.session_script.specs.declared.event.Event.TheVariants as events
 use Rattle.answer_text.specs.declared.answer.Answer.{Answer}
 use Rattle.answer_text.specs.declared.answer.Answer.TheVariants as answers
 use Rattle.answer_text.specs.declared.refusal.Refusal.{Refusal}
-use Rattle.blob_model.specs.Session.{Session}
+use Rattle.blob_model.specs.Session.{Session, page_limit}
 use Rattle.blob_model.specs.History.{History}
 use Rattle.blob_model.specs.Builds.{Cell, sent, filed, lent}
 use Rattle.blob_model.specs.Standing.{ended}
@@ -41,32 +41,39 @@ page_fault_long own reader reserved one = absurd one
 page_fault_long own reader (in_page number) (inl e) = ap (length {A = Answer}) e
 page_fault_long own reader (in_page number) (inr none) = absurd none
 
-sent_fault_long : (own : List Answer) (s : Session) (h : History) (reader : ReaderId) (found : Option Piece) → IsOneOf own (sent_fault s h reader found) → length own ≡ 1
+sent_fault_long : (own : List Answer) (s : Session) (h : History) (reader : ReaderId) (found : Option Piece) → IsOneOf own (sent_fault s h reader found)
+    → length own ≡ 1
 sent_fault_long own s h reader None one = absurd one
-sent_fault_long own s h reader (Some piece) one = page_fault_long own reader (place s.limits.page h piece) one
+sent_fault_long own s h reader (Some piece) one = page_fault_long own reader (place (page_limit s) h piece) one
 
 cell_fault_long : (own : List Answer) (s : Session) (h : History) (reader : ReaderId) (cell : Cell) → IsOneOf own (cell_fault s h reader cell) → length own ≡ 1
-cell_fault_long own s h reader (sent blob index) one = sent_fault_long own s h reader (piece_with (pieces s.limits.page h) (sent blob index)) one
+cell_fault_long own s h reader (sent blob index) one = sent_fault_long own s h reader (piece_with (pieces (page_limit s) h) (sent blob index)) one
 cell_fault_long own s h reader (filed name stamp index) one = absurd one
 cell_fault_long own s h reader (lent slot index) (inl e) = ap (length {A = Answer}) e
 cell_fault_long own s h reader (lent slot index) (inr none) = absurd none
 
-faults_long : (own : List Answer) (s : Session) (h : History) (reader : ReaderId) (cells : List Cell) → IsOneOf own (read_faults s h reader cells) → length own ≡ 1
+faults_long : (own : List Answer) (s : Session) (h : History) (reader : ReaderId) (cells : List Cell) → IsOneOf own (read_faults s h reader cells) → length own
+    ≡ 1
 faults_long own s h reader [] one = absurd one
 faults_long own s h reader (cell ∷ cells) one =
-    ⊎_elim (cell_fault_long own s h reader cell) (faults_long own s h reader cells) (one_of_append own (cell_fault s h reader cell) (read_faults s h reader cells) one)
+    ⊎_elim (cell_fault_long own s h reader cell) (faults_long own s h reader cells)
+    (one_of_append own (cell_fault s h reader cell) (read_faults s h reader cells) one)
 
-read_long : (own : List Answer) (s : Session) (h : History) (reader : ReaderId) (cells : List Cell) (first : Option Cell) → IsRead s h reader cells first own → length own ≡ 1
+read_long : (own : List Answer) (s : Session) (h : History) (reader : ReaderId) (cells : List Cell) (first : Option Cell) → IsRead s h reader cells first own
+    → length own ≡ 1
 read_long own s h reader cells None (inl given) = ap (length {A = Answer}) given.1
 read_long own s h reader cells None (inr fault) = faults_long own s h reader cells fault
 read_long own s h reader cells (Some cell) (inl e) = ap (length {A = Answer}) e
 read_long own s h reader cells (Some cell) (inr fault) = faults_long own s h reader (before_failing h cells) fault
 
-next_long : (own : List Answer) (s : Session) (h : History) (reader : ReaderId) (open_reader : OpenReader) (more : ℕ) → IsNext s h reader open_reader more own → length own ≡ 1
+next_long : (own : List Answer) (s : Session) (h : History) (reader : ReaderId) (open_reader : OpenReader) (more : ℕ) → IsNext s h reader open_reader more own
+    → length own ≡ 1
 next_long own s h reader open_reader zero e = ap (length {A = Answer}) e
-next_long own s h reader open_reader (suc more) one = read_long own s h reader (chunk s.limits h open_reader) (first_failing h (chunk s.limits h open_reader)) one
+next_long own s h reader open_reader (suc more) one = read_long own s h reader (chunk s.limits h open_reader) (first_failing h (chunk s.limits h open_reader))
+    one
 
-step_by_long : (own : List Answer) (s : Session) (h : History) (reader : ReaderId) (open_reader : OpenReader) (status : Option Status) → IsStepBy s h reader open_reader status own
+step_by_long : (own : List Answer) (s : Session) (h : History) (reader : ReaderId) (open_reader : OpenReader) (status : Option Status)
+    → IsStepBy s h reader open_reader status own
     → length own ≡ 1
 step_by_long own s h reader open_reader None e = ap (length {A = Answer}) e
 step_by_long own s h reader open_reader (Some statuses.Done) one = next_long own s h reader open_reader (left open_reader) one
@@ -93,14 +100,15 @@ failed_long own h job (Some file) (number ∷ numbers) (inr (inl e)) = ap (lengt
 failed_long own h job (Some file) (number ∷ numbers) (inr (inr none)) = absurd none
 
 accepted_long : (own : List Answer) (s : Session) (h : History) (event : Event) → IsAccepted s h event own → length own ≡ event_count s h event
-accepted_long own s h (events.Step reader) one = step_long own s h reader (reader_at s.limits.page h reader.0) one
+accepted_long own s h (events.Step reader) one = step_long own s h reader (reader_at (page_limit s) h reader.0) one
 accepted_long own s h (events.Segment renderer b segment bytes) one = segment_long own s h b segment (plan_in s h b) one
 accepted_long own s h (events.Disk job) (inl e) = ap (length {A = Answer}) e
-accepted_long own s h (events.Disk job) (inr failed) = failed_long own h job (source_of (in_flight h)) (job_left s.limits.page h) failed
+accepted_long own s h (events.Disk job) (inr failed) = failed_long own h job (source_of (in_flight h)) (job_left (page_limit s) h) failed
 accepted_long own s h event (inl e) = ap (length {A = Answer}) e
 accepted_long own s h event (inr none) = absurd none
 
-own_long_by : (own : List Answer) (s : Session) (h : History) (event : Event) (why : Option Refusal) → IsOwnBy s h event why own → length own ≡ own_count_by s h event why
+own_long_by : (own : List Answer) (s : Session) (h : History) (event : Event) (why : Option Refusal) → IsOwnBy s h event why own → length own
+    ≡ own_count_by s h event why
 own_long_by own s h event (Some why) e = ap (length {A = Answer}) e
 own_long_by own s h event None one = accepted_long own s h event one
 

@@ -12,7 +12,7 @@ use Rattle.session_script.specs.declared.event.Event.TheVariants as events
 use Rattle.answer_text.specs.declared.answer.Answer.{Answer}
 use Rattle.answer_text.specs.declared.answer.Answer.TheVariants as answers
 use Rattle.answer_text.specs.declared.refusal.Refusal.{Refusal}
-use Rattle.blob_model.specs.Session.{Session}
+use Rattle.blob_model.specs.Session.{Session, page_limit}
 use Rattle.blob_model.specs.History.{History}
 use Rattle.blob_model.specs.Builds.{Cell, sent, filed, lent}
 use Rattle.blob_model.specs.Standing.{ended}
@@ -96,7 +96,8 @@ pub pairs-sound : (a b : Answer) (lists : List (List Answer)) → is_pair_among 
 pairs-sound a b [] e = absurd (false_true e)
 pairs-sound a b (list ∷ []) e = inl (pair-sound a b list e)
 pairs-sound a b (list ∷ next ∷ lists) e =
-    ⊎_elim (λ same. inl (pair-sound a b list same)) (λ later. inr (pairs-sound a b (next ∷ lists) later)) (or_cases (is_pair a b list) (is_pair_among a b (next ∷ lists)) e)
+    ⊎_elim (λ same. inl (pair-sound a b list same)) (λ later. inr (pairs-sound a b (next ∷ lists) later))
+    (or_cases (is_pair a b list) (is_pair_among a b (next ∷ lists)) e)
 
 pub pairs-whole : (a b : Answer) (lists : List (List Answer)) → IsOneOf (a ∷ b ∷ []) lists → is_pair_among a b lists ≡ true
 pairs-whole a b [] one = absurd one
@@ -106,16 +107,19 @@ pairs-whole a b (list ∷ next ∷ lists) (inl same) = or_first (is_pair a b lis
 pairs-whole a b (list ∷ next ∷ lists) (inr later) = or_second (is_pair a b list) (is_pair_among a b (next ∷ lists)) (pairs-whole a b (next ∷ lists) later)
 
 -- bytes given
-given-sound : (s : Session) (h : History) (reader : ReaderId) (cells : List Cell) (a : Answer) → is_given s h reader cells a ≡ true → IsGiven s h reader cells (a ∷ [])
+given-sound : (s : Session) (h : History) (reader : ReaderId) (cells : List Cell) (a : Answer) → is_given s h reader cells a ≡ true → IsGiven s h reader cells
+    (a ∷ [])
 given-sound s h reader cells (answers.Given number bytes) e =
     let parts = and_parts (number.0 == reader.0) (agree s h cells bytes) e in
     let path : number ≡ reader = same_reader-sound number reader parts.0 in
     (bytes, (λ i. answers.Given (path i) bytes ∷ []), parts.1)
 given-sound s h reader cells a e = absurd (false_true e)
 
-given-whole : (s : Session) (h : History) (reader : ReaderId) (cells : List Cell) (a : Answer) → IsGiven s h reader cells (a ∷ []) → is_given s h reader cells a ≡ true
+given-whole : (s : Session) (h : History) (reader : ReaderId) (cells : List Cell) (a : Answer) → IsGiven s h reader cells (a ∷ []) → is_given s h reader cells a
+    ≡ true
 given-whole s h reader cells a given =
-    let done : is_given s h reader cells (answers.Given reader given.0) ≡ true = both (reader.0 == reader.0) (agree s h cells given.0) (same_reader-whole reader) given.2 in
+    let done : is_given s h reader cells (answers.Given reader given.0) ≡ true = both (reader.0 == reader.0) (agree s h cells given.0)
+    (same_reader-whole reader) given.2 in
     subst (λ (b : Answer). is_given s h reader cells b ≡ true) (sym (alone a (answers.Given reader given.0) given.1)) done
 
 read-sound : (s : Session) (h : History) (reader : ReaderId) (cells : List Cell) (first : Option Cell) (a : Answer) → is_read s h reader cells first a ≡ true
@@ -124,12 +128,14 @@ read-sound s h reader cells None a e =
     ⊎_elim (λ given. inl (given-sound s h reader cells a given)) (λ fault. inr (some-sound a (read_faults s h reader cells) fault))
     (or_cases (is_given s h reader cells a) (is_some_of a (read_faults s h reader cells)) e)
 read-sound s h reader cells (Some cell) a e =
-    ⊎_elim (λ same. inl (only-sound a (answers.FileChanged reader (file_of cell) ∷ []) same)) (λ fault. inr (some-sound a (read_faults s h reader (before_failing h cells)) fault))
+    ⊎_elim (λ same. inl (only-sound a (answers.FileChanged reader (file_of cell) ∷ []) same))
+    (λ fault. inr (some-sound a (read_faults s h reader (before_failing h cells)) fault))
     (or_cases (same_answer a (answers.FileChanged reader (file_of cell))) (is_some_of a (read_faults s h reader (before_failing h cells))) e)
 
 read-whole : (s : Session) (h : History) (reader : ReaderId) (cells : List Cell) (first : Option Cell) (a : Answer) → IsRead s h reader cells first (a ∷ [])
     → is_read s h reader cells first a ≡ true
-read-whole s h reader cells None a (inl given) = or_first (is_given s h reader cells a) (is_some_of a (read_faults s h reader cells)) (given-whole s h reader cells a given)
+read-whole s h reader cells None a (inl given) = or_first (is_given s h reader cells a) (is_some_of a (read_faults s h reader cells))
+    (given-whole s h reader cells a given)
 read-whole s h reader cells None a (inr fault) =
     or_second (is_given s h reader cells a) (is_some_of a (read_faults s h reader cells)) (some-whole a (read_faults s h reader cells) fault)
 read-whole s h reader cells (Some cell) a (inl same) =
@@ -149,30 +155,34 @@ next-whole : (s : Session) (h : History) (reader : ReaderId) (open_reader : Open
 next-whole s h reader open_reader zero a e = only-whole a (answers.Ended reader statuses.Done ∷ []) e
 next-whole s h reader open_reader (suc more) a one = read-whole s h reader (chunk s.limits h open_reader) (first_failing h (chunk s.limits h open_reader)) a one
 
-step_by-sound : (s : Session) (h : History) (reader : ReaderId) (open_reader : OpenReader) (status : Option Status) (a : Answer) → is_step_by s h reader open_reader status a ≡ true
+step_by-sound : (s : Session) (h : History) (reader : ReaderId) (open_reader : OpenReader) (status : Option Status) (a : Answer)
+    → is_step_by s h reader open_reader status a ≡ true
     → IsStepBy s h reader open_reader status (a ∷ [])
 step_by-sound s h reader open_reader None a e = only-sound a (answers.Wait reader ∷ []) e
 step_by-sound s h reader open_reader (Some statuses.Done) a e = next-sound s h reader open_reader (left open_reader) a e
 step_by-sound s h reader open_reader (Some status) a e = only-sound a (answers.Ended reader status ∷ []) e
 
-step_by-whole : (s : Session) (h : History) (reader : ReaderId) (open_reader : OpenReader) (status : Option Status) (a : Answer) → IsStepBy s h reader open_reader status (a ∷ [])
+step_by-whole : (s : Session) (h : History) (reader : ReaderId) (open_reader : OpenReader) (status : Option Status) (a : Answer)
+    → IsStepBy s h reader open_reader status (a ∷ [])
     → is_step_by s h reader open_reader status a ≡ true
 step_by-whole s h reader open_reader None a e = only-whole a (answers.Wait reader ∷ []) e
 step_by-whole s h reader open_reader (Some statuses.Done) a one = next-whole s h reader open_reader (left open_reader) a one
 step_by-whole s h reader open_reader (Some status) a e = only-whole a (answers.Ended reader status ∷ []) e
 
-step-sound : (s : Session) (h : History) (reader : ReaderId) (found : Option OpenReader) (a : Answer) → is_step s h reader found a ≡ true → IsStep s h reader found (a ∷ [])
+step-sound : (s : Session) (h : History) (reader : ReaderId) (found : Option OpenReader) (a : Answer) → is_step s h reader found a ≡ true
+    → IsStep s h reader found (a ∷ [])
 step-sound s h reader None a e = false_true e
 step-sound s h reader (Some open_reader) a e = step_by-sound s h reader open_reader (ended h open_reader.blob) a e
 
-step-whole : (s : Session) (h : History) (reader : ReaderId) (found : Option OpenReader) (a : Answer) → IsStep s h reader found (a ∷ []) → is_step s h reader found a ≡ true
+step-whole : (s : Session) (h : History) (reader : ReaderId) (found : Option OpenReader) (a : Answer) → IsStep s h reader found (a ∷ [])
+    → is_step s h reader found a ≡ true
 step-whole s h reader None a one = absurd one
 step-whole s h reader (Some open_reader) a one = step_by-whole s h reader open_reader (ended h open_reader.blob) a one
 
 pub single-sound : (s : Session) (h : History) (event : Event) (a : Answer) → is_single s h event a ≡ true → IsAccepted s h event (a ∷ [])
-single-sound s h (events.Step reader) a e = step-sound s h reader (reader_at s.limits.page h reader.0) a e
+single-sound s h (events.Step reader) a e = step-sound s h reader (reader_at (page_limit s) h reader.0) a e
 single-sound s h event a e = among-sound a (accepted s h event ∷ failing s h event) e
 
 pub single-whole : (s : Session) (h : History) (event : Event) (a : Answer) → IsAccepted s h event (a ∷ []) → is_single s h event a ≡ true
-single-whole s h (events.Step reader) a one = step-whole s h reader (reader_at s.limits.page h reader.0) a one
+single-whole s h (events.Step reader) a one = step-whole s h reader (reader_at (page_limit s) h reader.0) a one
 single-whole s h event a one = among-whole a (accepted s h event ∷ failing s h event) one

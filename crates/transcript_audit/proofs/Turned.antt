@@ -103,7 +103,8 @@ found_here {X} test items places i below passes =
     by (Some x) e = ap (λ (b : Bool). cond b (Some x) (find test rest)) e
 
 pub passed_here : {X : Type 0} (test : X → Bool) (items : List X) (places : List ℕ) (i : ℕ) → i < length places
-    → option_map_or test (slice_get items (get_or places i 0)) false ≡ false → find test (items_at items (drop (i + 1) places)) ≡ find test (items_at items (drop i places))
+    → option_map_or test (slice_get items (get_or places i 0)) false ≡ false → find test (items_at items (drop (i + 1) places))
+    ≡ find test (items_at items (drop i places))
 passed_here {X} test items places i below fails =
     sym (ap (λ (list : List ℕ). find test (items_at items list)) (drop_more places i 0 below) ∙ by (slice_get items (get_or places i 0)) fails)
   where

@@ -5,7 +5,7 @@ use Rattle.std.specs.List.{list_any}
 use Rattle.blob_words.specs.declared.status.Status.{Status}
 use Rattle.answer_text.specs.declared.answer.Answer.{Answer}
 use Rattle.answer_text.specs.declared.answer.Answer.TheVariants as answers
-use Rattle.blob_model.specs.Session.{Session}
+use Rattle.blob_model.specs.Session.{Session, page_limit}
 use Rattle.blob_model.specs.History.{History, said}
 use Rattle.blob_model.specs.Parts.{own_bytes}
 use Rattle.blob_model.specs.Builds.{Build}
@@ -36,7 +36,7 @@ head build = (build.name, own_bytes build.parts)
 abbrev pub grants_to : Session → History → List (ℕ × ℕ) → List Answer
 grants_to s h [] = []
 grants_to s h (one ∷ more) =
-    if nat_le (memory s.limits.page h + one.1) s.limits.memory then answers.Granted one.0 ∷ grants_to s (said h (answers.Granted one.0)) more else []
+    if nat_le (memory (page_limit s) h + one.1) s.limits.memory then answers.Granted one.0 ∷ grants_to s (said h (answers.Granted one.0)) more else []
 
 -- a page file is due where it isn't one of those held and wasn't asked for
 abbrev pub is_due_in : List ℕ → List ℕ → Page → Bool

@@ -10,7 +10,7 @@ use Rattle.session_script.specs.declared.event.Event.TheVariants as events
 use Rattle.answer_text.specs.declared.answer.Answer.{Answer}
 use Rattle.answer_text.specs.declared.answer.Answer.TheVariants as answers
 use Rattle.answer_text.specs.declared.refusal.Refusal.{Refusal}
-use Rattle.blob_model.specs.Session.{Session}
+use Rattle.blob_model.specs.Session.{Session, page_limit}
 use Rattle.blob_model.specs.History.{History}
 use Rattle.blob_model.specs.Builds.{Cell}
 use Rattle.blob_model.specs.Standing.{ended}
@@ -49,7 +49,7 @@ is_step s h reader (Some open_reader) answer = is_step_by s h reader open_reader
 
 -- the one own answer of an accepted line
 abbrev pub is_single : Session → History → Event → Answer → Bool
-is_single s h (events.Step reader) answer = is_step s h reader (reader_at s.limits.page h reader.0) answer
+is_single s h (events.Step reader) answer = is_step s h reader (reader_at (page_limit s) h reader.0) answer
 is_single s h event answer = is_among answer (accepted s h event ∷ failing s h event)
 
 -- how many own answers a line has

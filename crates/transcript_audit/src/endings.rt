@@ -2,7 +2,7 @@
 ghost use Rattle.std.specs.Prelude.{◌≡◌, ◌==◌, ◌++◌, [], false, slice_get, IfOk, OnOk};
 ghost use Rattle.std.specs.List.{list_any, list_all};
 ghost use Rattle.std.specs.Option.{option_map_or, option_to_list};
-ghost use Rattle.blob_model.specs.Session.{Session};
+ghost use Rattle.blob_model.specs.Session.{Session, page_limit};
 ghost use Rattle.blob_model.specs.History.{History, said_all};
 ghost use Rattle.blob_model.specs.Parts.{sources};
 ghost use Rattle.blob_model.specs.Builds.{builds};
@@ -145,7 +145,7 @@ fn ending_of(contents: &Contents, build: &Build) -> Result<Option<Answer>, NoMem
 fn ending_at(contents: &Contents, place: usize) -> Result<Option<Answer>, NoMemory>
     ensures { IfOk result (λ found. (s : Session) (h : History) → Follows s h contents.now
         → option_to_list found
-        ≡ option_map_or (ending_answers s h) (slice_get (builds s.limits.page h) place) []) }
+        ≡ option_map_or (ending_answers s h) (slice_get (builds (page_limit s) h) place) []) }
 {
     match contents.builds.as_slice().get(place) {
         Some(build) => ending_of(contents, build),

@@ -1,7 +1,7 @@
 //! Those that wait are granted in order, while the head fits in memory.
 ghost use Rattle.std.specs.Prelude.{◌≡◌, ◌+◌, ◌++◌, map, nat_le, slice_get, IfOk, OnOk};
 ghost use Rattle.std.specs.Option.{option_to_list};
-ghost use Rattle.blob_model.specs.Session.{Session};
+ghost use Rattle.blob_model.specs.Session.{Session, page_limit};
 ghost use Rattle.blob_model.specs.History.{History, said_all};
 ghost use Rattle.blob_model.specs.Tally.{memory};
 ghost use Rattle.blob_model.specs.Waits.{waits};
@@ -53,7 +53,7 @@ fn heads_at(
 /// The names and own bytes of the blobs that wait.
 pub fn heads(contents: &Contents) -> Result<ItemList<(BlobName, u128)>, NoMemory>
     ensures { IfOk result (λ heads. (s : Session) (h : History) → Follows s h contents.now
-        → heads ≡ map head (waits s.limits.page h)) }
+        → heads ≡ map head (waits (page_limit s) h)) }
 {
     let places = contents.waits()?;
     let builds = contents.builds.as_slice();
@@ -64,7 +64,7 @@ pub fn heads(contents: &Contents) -> Result<ItemList<(BlobName, u128)>, NoMemory
 /// Whether memory has room for so many bytes more.
 fn has_room(contents: &Contents, own: u128) -> Result<bool, NoMemory>
     ensures { IfOk result (λ fits. (s : Session) (h : History) → Follows s h contents.now
-        → fits ≡ nat_le (memory s.limits.page h + own) s.limits.memory) }
+        → fits ≡ nat_le (memory (page_limit s) h + own) s.limits.memory) }
 {
     let list = contents.reached()?;
     let memory = contents.memory(list.as_slice())?;

@@ -1,7 +1,7 @@
 //! The own answer of an accepted line that has one.
 ghost use Rattle.std.specs.Prelude.{◌≡◌, [], ◌∷◌, IfOk};
 ghost use Rattle.session_script.specs.declared.event.Event.TheVariants as events;
-ghost use Rattle.blob_model.specs.Session.{Session};
+ghost use Rattle.blob_model.specs.Session.{Session, page_limit};
 ghost use Rattle.blob_model.specs.History.{History};
 ghost use Rattle.blob_model.specs.Builds.{builds, slice_parts};
 ghost use Rattle.blob_model.specs.Construct.{build_answer};
@@ -47,7 +47,7 @@ pub fn is_slice_answer(
 ) -> Result<bool, NoMemory>
     ensures { IfOk result (λ is_own. (s : Session) (h : History) → Follows s h contents.now
         → is_own ≡ same_answer answer.now
-        (build_answer s h r.0 b (slice_parts (builds s.limits.page h) source start end))) }
+        (build_answer s h r.0 b (slice_parts (builds (page_limit s) h) source start end))) }
 {
     let parts = contents.slice_parts(source, start, end)?;
     let is_own = is_build_answer(contents, answer, r, b, parts.as_slice())?;

@@ -1,7 +1,7 @@
 //! How blobs stand, as `stat` and the readers tell it.
 ghost use Rattle.std.specs.Prelude.{◌≡◌, ◌≤◌, length, slice_get, IfOk};
 ghost use Rattle.std.specs.Option.{option_to_list};
-ghost use Rattle.blob_model.specs.Session.{Session};
+ghost use Rattle.blob_model.specs.Session.{Session, page_limit};
 ghost use Rattle.blob_model.specs.History.{History};
 ghost use Rattle.blob_model.specs.Builds.{builds};
 ghost use Rattle.blob_model.specs.Standing.{ended};
@@ -71,7 +71,7 @@ pub fn status_of(contents: &Contents, name: BlobName) -> Result<Status, NoMemory
 /// The content type of the blob of this name.
 pub fn kind_in(contents: &Contents, name: BlobName) -> &[u8]
     ensures { (s : Session) (h : History) → Follows s h contents.now
-        → result.now ≡ kind_in (builds s.limits.page h) name }
+        → result.now ≡ kind_in (builds (page_limit s) h) name }
 {
     match contents.build(name) {
         Some(build) => build.kind.as_slice(),

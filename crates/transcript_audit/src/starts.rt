@@ -1,7 +1,7 @@
 //! Jobs that start: pieces are paged out where somebody waits, or moved out of a thin page file.
 ghost use Rattle.std.specs.Prelude.{◌≡◌, ◌+◌, ◌-◌, ◌*◌, ◌&&◌, ◌<◌, false, filter, find, nat_lt, nat_le, IfOk, slice_get};
 ghost use Rattle.std.specs.Option.{option_and_then, option_map, option_map_or, option_to_list};
-ghost use Rattle.blob_model.specs.Session.{Session};
+ghost use Rattle.blob_model.specs.Session.{Session, page_limit};
 ghost use Rattle.blob_model.specs.History.{History};
 ghost use Rattle.blob_model.specs.Builds.{builds};
 ghost use Rattle.blob_model.specs.Pieces.{Piece, pieces};
@@ -89,7 +89,7 @@ fn pageable_of(
 /// The reached pieces in memory whose own blob is done and that no job in flight names.
 fn pageable(contents: &Contents, list: &[Piece]) -> Result<ItemList<Piece>, NoMemory>
     ensures { IfOk result (λ found. (s : Session) (h : History) → Follows s h contents.now
-        → list.now ≡ reached s.limits.page h → found ≡ pageable s.limits.page h) }
+        → list.now ≡ reached (page_limit s) h → found ≡ pageable (page_limit s) h) }
 {
     let memory = contents.in_memory(list)?;
     let endings = &contents.kept.endings;
@@ -101,7 +101,7 @@ fn pageable(contents: &Contents, list: &[Piece]) -> Result<ItemList<Piece>, NoMe
 /// The own bytes of the head of those that wait.
 fn head_bytes(contents: &Contents) -> Result<u128, NoMemory>
     ensures { IfOk result (λ bytes. (s : Session) (h : History) → Follows s h contents.now
-        → bytes ≡ head_bytes (waits s.limits.page h)) }
+        → bytes ≡ head_bytes (waits (page_limit s) h)) }
 {
     let waiting = heads(contents)?;
     match waiting.as_slice().first() {
@@ -154,8 +154,8 @@ pub fn page_job(course: &Course) -> Result<Option<Answer>, NoMemory>
 /// many bytes are charged to it.
 fn can_move(contents: &Contents, list: &[Piece], disk: u128, page: &Page) -> Result<bool, NoMemory>
     ensures { IfOk result (λ can. (s : Session) (h : History) → Follows s h contents.now
-        → disk ≡ disk_of h (builds s.limits.page h) (pieces s.limits.page h) list.now
-        → can ≡ can_move s h (builds s.limits.page h) (pieces s.limits.page h) list.now page.now) }
+        → disk ≡ disk_of h (builds (page_limit s) h) (pieces (page_limit s) h) list.now
+        → can ≡ can_move s h (builds (page_limit s) h) (pieces (page_limit s) h) list.now page.now) }
 {
     let inside = contents.in_page(page, list)?;
     let bytes = bytes_of(inside.as_slice());
@@ -172,9 +172,9 @@ fn can_move_at(
     place: usize,
 ) -> Result<bool, NoMemory>
     ensures { IfOk result (λ can. (s : Session) (h : History) → Follows s h contents.now
-        → disk ≡ disk_of h (builds s.limits.page h) (pieces s.limits.page h) list.now
+        → disk ≡ disk_of h (builds (page_limit s) h) (pieces (page_limit s) h) list.now
         → can ≡ option_map_or
-        (can_move s h (builds s.limits.page h) (pieces s.limits.page h) list.now)
+        (can_move s h (builds (page_limit s) h) (pieces (page_limit s) h) list.now)
         (slice_get contents.now.kept.pages place) false) }
 {
     match contents.kept.pages.as_slice().get(place) {
@@ -191,9 +191,9 @@ fn first_movable(
     places: &[usize],
 ) -> Result<Option<usize>, NoMemory>
     ensures { IfOk result (λ found. (s : Session) (h : History) → Follows s h contents.now
-        → disk ≡ disk_of h (builds s.limits.page h) (pieces s.limits.page h) list.now
+        → disk ≡ disk_of h (builds (page_limit s) h) (pieces (page_limit s) h) list.now
         → option_and_then (slice_get contents.now.kept.pages) found
-        ≡ find (can_move s h (builds s.limits.page h) (pieces s.limits.page h) list.now)
+        ≡ find (can_move s h (builds (page_limit s) h) (pieces (page_limit s) h) list.now)
         (items_at contents.now.kept.pages places.now)) }
 {
     for place in places {
@@ -208,7 +208,7 @@ fn first_movable(
 /// A job that moves the reached pieces out of the page file.
 fn compaction_of(contents: &Contents, list: &[Piece], page: &Page) -> Result<Answer, NoMemory>
     ensures { IfOk result (λ answer. (s : Session) (h : History) → Follows s h contents.now
-        → list.now ≡ reached s.limits.page h → answer ≡ compaction s h page.now) }
+        → list.now ≡ reached (page_limit s) h → answer ≡ compaction s h page.now) }
 {
     let inside = contents.in_page(page, list)?;
     let numbers = kept_of(contents.alloc, page, inside.as_slice())?;
@@ -224,7 +224,7 @@ fn compaction_at(
     found: Option<usize>,
 ) -> Result<Option<Answer>, NoMemory>
     ensures { IfOk result (λ answer. (s : Session) (h : History) → Follows s h contents.now
-        → list.now ≡ reached s.limits.page h → answer ≡ option_map (compaction s h)
+        → list.now ≡ reached (page_limit s) h → answer ≡ option_map (compaction s h)
         (option_and_then (slice_get contents.now.kept.pages) found)) }
 {
     let Some(place) = found else {

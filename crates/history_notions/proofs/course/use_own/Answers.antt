@@ -11,5 +11,6 @@ loop-k-preserved c =
     let place : c.from.result ≡ c.loop-k.k = omega arith in
     c.in_ok-use_index.ensures
     ∙ ap (λ (k : ℕ). use_cell c.args.pages.now c.args.builds.now c.args.list.now c.loop-k.uses.items (sent c.args.blob (c.args.from + k))) place
-    ∙ ap (λ (before : List ℕ). use_cell c.args.pages.now c.args.builds.now c.args.list.now before (sent c.args.blob (c.args.from + c.loop-k.k))) c.loop-k.invariant
+    ∙ ap (λ (before : List ℕ). use_cell c.args.pages.now c.args.builds.now c.args.list.now before (sent c.args.blob (c.args.from + c.loop-k.k)))
+    c.loop-k.invariant
     ∙ sym (index_more c.args.pages.now c.args.builds.now c.args.list.now c.args.uses.now.items (kinds.Sent c.args.blob) c.args.from c.loop-k.k)

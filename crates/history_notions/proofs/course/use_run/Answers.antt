@@ -10,11 +10,13 @@ use Rattle.history_notions.proofs.course.use_run.Goals as goal
 pub returns-in-Filed : goal.returns-in-Filed
 returns-in-Filed c =
     let run = c.args.run.now in
-    sym (ap (λ (source : Source). use_cells c.args.pages.now c.args.builds.now c.args.list.now c.args.uses.now.items (map (cell_at source) (range_with_len run.from run.len))) c.in-Filed.is
+    sym (ap (λ (source : Source). use_cells c.args.pages.now c.args.builds.now c.args.list.now c.args.uses.now.items
+    (map (cell_at source) (range_with_len run.from run.len))) c.in-Filed.is
     ∙ files_use_none c.args.pages.now c.args.builds.now c.args.list.now c.args.uses.now.items _ _ (range_with_len run.from run.len))
 
 pub returns-in-Lent : goal.returns-in-Lent
 returns-in-Lent c =
     let run = c.args.run.now in
-    sym (ap (λ (source : Source). use_cells c.args.pages.now c.args.builds.now c.args.list.now c.args.uses.now.items (map (cell_at source) (range_with_len run.from run.len))) c.in-Lent.is
+    sym (ap (λ (source : Source). use_cells c.args.pages.now c.args.builds.now c.args.list.now c.args.uses.now.items
+    (map (cell_at source) (range_with_len run.from run.len))) c.in-Lent.is
     ∙ handles_use_none c.args.pages.now c.args.builds.now c.args.list.now c.args.uses.now.items _ (range_with_len run.from run.len))

@@ -4,4 +4,5 @@ use Rattle.history_notions.proofs.pieces.piece_spans.Given as goal
 
 abbrev pub invariant-loop-len : goal.invariant-loop-len
 invariant-loop-len l =
-    (l.found ++ piece_spans l.page l.from (drop l.len-index l.lengths) ≡ piece_spans l.page 0 l.lengths) × (l.from + sum (drop l.len-index l.lengths) ≡ sum l.lengths)
+    (l.found ++ piece_spans l.page l.from (drop l.len-index l.lengths) ≡ piece_spans l.page 0 l.lengths)
+    × (l.from + sum (drop l.len-index l.lengths) ≡ sum l.lengths)

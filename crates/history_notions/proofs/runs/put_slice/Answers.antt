@@ -19,7 +19,8 @@ loop-run-preserved c =
     let skip : ℕ = c.loop-run.skip in
     let left : ℕ = c.loop-run.left in
     let split : drop i runs ≡ run ∷ rest = drop_more runs i run (omega arith) ∙ ap (λ (one : Run). one ∷ rest) (sym c.run-item.is) in
-    let before : found ++ take left (drop skip (cells_of_runs (run ∷ rest))) ≡ cells_of_runs c.args.found.now ++ take c.args.len (drop c.args.off (cells_of_runs runs)) =
+    let before : found ++ take left (drop skip (cells_of_runs (run ∷ rest))) ≡ cells_of_runs c.args.found.now
+    ++ take c.args.len (drop c.args.off (cells_of_runs runs)) =
     ap (λ (list : List Run). found ++ take left (drop skip (cells_of_runs list))) (sym split) ∙ c.loop-run.invariant in
     elim c.if-skip-run.branch [
       | then-skip-run w ↦

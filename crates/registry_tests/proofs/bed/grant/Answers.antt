@@ -4,4 +4,5 @@ use Rattle.registry_tests.proofs.Views.{stands_as}
 use Rattle.registry_tests.proofs.bed.grant.Goals as goal
 
 pub set_transport-requires : goal.set_transport-requires
-set_transport-requires c = stands_as (entry_of c.args.registry.now c.name-name.result) PendingQuota (rw c.in-Some-PendingQuota.field-0-is at c.in-Some-PendingQuota.ensures)
+set_transport-requires c = stands_as (entry_of c.args.registry.now c.name-name.result) PendingQuota
+    (rw c.in-Some-PendingQuota.field-0-is at c.in-Some-PendingQuota.ensures)

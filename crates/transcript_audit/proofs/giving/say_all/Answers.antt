@@ -13,5 +13,6 @@ loop-answer-preserved c = λ s h follows.
     let i : ℕ = c.loop-answer.answer-index in
     let one : Answer = c.answer-item.result in
     let more : said (said_all h (take i list)) one ≡ said_all h (take (i + 1) list) =
-    sym (ap (said_all h) (take_more list i one (omega arith) ∙ ap (λ (each : Answer). take i list ++ each ∷ []) (sym c.answer-item.is)) ∙ said_more h (take i list) one) in
+    sym (ap (said_all h) (take_more list i one (omega arith) ∙ ap (λ (each : Answer). take i list ++ each ∷ []) (sym c.answer-item.is)) ∙ said_more h
+    (take i list) one) in
     subst (λ (k : History). FollowsCourse s k c.say.new.self) more (c.in_ok-say.ensures s (said_all h (take i list)) (c.loop-answer.invariant s h follows))

@@ -8,6 +8,7 @@ use Rattle.blob_model.specs.History.{said, said_all}
 use Rattle.blob_model.specs.Tally.{memory}
 use Rattle.blob_model.specs.Waits.{waits}
 use Rattle.blob_model.specs.Settle.{grants}
+use Rattle.blob_model.specs.Session.{page_limit}
 use Rattle.history_notions.specs.FollowsCourse.{FollowsCourse}
 use Rattle.transcript_audit.specs.Owed.{grants_to}
 use Rattle.transcript_audit.proofs.Passes.{granting_start, granting_step, granting_stop, granting_end, grants_alike}
@@ -24,7 +25,7 @@ loop-name-preserved c = λ s h follows.
     let one : ℕ × ℕ = c.loop-name-item.result in
     let split : drop i items ≡ one ∷ drop (i + 1) items =
     drop_more items i one (omega arith) ∙ ap (λ (each : ℕ × ℕ). each ∷ drop (i + 1) items) (sym c.loop-name-item.is) in
-    let fits : nat_le (memory s.limits.page far.0 + one.1) s.limits.memory ≡ true =
+    let fits : nat_le (memory (page_limit s) far.0 + one.1) s.limits.memory ≡ true =
     sym (c.in_ok-fits.ensures s far.0 far.1.follows.follows) ∙ c.if-not-fits.false in (
       said far.0 (answers.Granted one.0),
       granting_step s h far.0 c.loop-name.course c.grant.new.course items i c.args.owed.now c.loop-name.owed c.grant.new.owed one far.1 split fits
@@ -40,8 +41,8 @@ returns-then-not-fits c = λ s h follows.
     let split : drop i items ≡ one ∷ drop (i + 1) items =
     drop_more items i one (omega arith) ∙ ap (λ (each : ℕ × ℕ). each ∷ drop (i + 1) items) (sym c.loop-name-item.is) in
     let heads : grants_to s h items ≡ grants s h =
-    ap (grants_to s h) (c.as_slice-name-items.ensures ∙ c.in_ok-waiting.ensures s h follows.follows) ∙ grants_alike s h (waits s.limits.page h) in
-    let waits : nat_le (memory s.limits.page far.0 + one.1) s.limits.memory ≡ false =
+    ap (grants_to s h) (c.as_slice-name-items.ensures ∙ c.in_ok-waiting.ensures s h follows.follows) ∙ grants_alike s h (waits (page_limit s) h) in
+    let waits : nat_le (memory (page_limit s) far.0 + one.1) s.limits.memory ≡ false =
     sym (c.in_ok-fits.ensures s far.0 far.1.follows.follows) ∙ c.if-not-fits.true in
     let ended = granting_stop s h far.0 c.loop-name.course items i c.args.owed.now c.loop-name.owed one far.1 split waits in (
       ended.0 ∙ ap (λ (list : List Answer). c.args.owed.now ++ list) heads,
@@ -54,7 +55,7 @@ returns c = λ s h follows.
     let items : List (ℕ × ℕ) = c.as_slice-name-items.result.now in
     let i : ℕ = c.loop-name.name-index in
     let heads : grants_to s h items ≡ grants s h =
-    ap (grants_to s h) (c.as_slice-name-items.ensures ∙ c.in_ok-waiting.ensures s h follows.follows) ∙ grants_alike s h (waits s.limits.page h) in
+    ap (grants_to s h) (c.as_slice-name-items.ensures ∙ c.in_ok-waiting.ensures s h follows.follows) ∙ grants_alike s h (waits (page_limit s) h) in
     let ended = granting_end s h far.0 c.loop-name.course items i c.args.owed.now c.loop-name.owed c.loop-name-test.false far.1 in (
       ended.0 ∙ ap (λ (list : List Answer). c.args.owed.now ++ list) heads,
       subst (λ (list : List Answer). FollowsCourse s (said_all h list) c.loop-name.course) heads ended.1,

@@ -7,6 +7,7 @@ use Rattle.blob_model.specs.Readers.{OpenReader, readers}
 use Rattle.blob_model.specs.Live.{live}
 use Rattle.blob_model.specs.Waits.{waits}
 use Rattle.blob_model.specs.Jobs.{paging}
+use Rattle.blob_model.specs.Session.{page_limit}
 use Rattle.history_notions.specs.Chosen.{items_at}
 use Rattle.transcript_audit.specs.Tests.{same_answer}
 use Rattle.transcript_audit.proofs.own.is_count_answer.Goals as goal
@@ -14,14 +15,15 @@ use Rattle.transcript_audit.proofs.own.is_count_answer.Goals as goal
 pub returns : goal.returns
 returns c = λ s h follows.
     let items : List Build = c.args.contents.now.builds in
-    let e0 : c.count_at-blobs.result ≡ length (live s.limits.page h) =
+    let e0 : c.count_at-blobs.result ≡ length (live (page_limit s) h) =
     c.count_at-blobs.ensures
     ∙ ap (λ (list : List Build). length (items_at list c.as_slice.result.now)) c.as_slice-builds.ensures
     ∙ ap (λ (places : List ℕ). length (items_at items places)) c.as_slice.ensures
     ∙ ap (length {A = Build}) (c.in_ok-live.ensures s h follows) in
     let e1 : length c.as_slice-urls.result.now ≡ length (entries h) = ap (length {A = Entry}) (c.as_slice-urls.ensures.value ∙ follows.keeps.entries_are) in
-    let e2 : length c.as_slice-readers.result.now ≡ length (readers s.limits.page h) = ap (length {A = OpenReader}) (c.as_slice-readers.ensures.value ∙ follows.readers_are) in
-    let e3 : c.count_at-waits.result ≡ length (waits s.limits.page h) =
+    let e2 : length c.as_slice-readers.result.now ≡ length (readers (page_limit s) h) =
+    ap (length {A = OpenReader}) (c.as_slice-readers.ensures.value ∙ follows.readers_are) in
+    let e3 : c.count_at-waits.result ≡ length (waits (page_limit s) h) =
     c.count_at-waits.ensures
     ∙ ap (λ (list : List Build). length (items_at list c.as_slice-2.result.now)) c.as_slice-builds.ensures
     ∙ ap (λ (places : List ℕ). length (items_at items places)) c.as_slice-2.ensures

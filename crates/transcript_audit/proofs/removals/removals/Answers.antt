@@ -8,6 +8,7 @@ use Rattle.blob_model.specs.Pages.{Page, pages, asked}
 use Rattle.blob_model.specs.Reached.{reached}
 use Rattle.blob_model.specs.Tally.{files, files_of}
 use Rattle.blob_model.specs.Settle.{removal, is_due}
+use Rattle.blob_model.specs.Session.{page_limit}
 use Rattle.history_notions.specs.Chosen.{items_at}
 use Rattle.history_notions.proofs.Lifted.{any_map, filter_alike}
 use Rattle.transcript_audit.specs.Owed.{is_due_in, number_of}
@@ -17,10 +18,10 @@ pub returns : goal.returns
 returns c = λ s h follows.
     let unremoved : List ℕ = c.args.unremoved.now in
     let written : c.as_slice-pages.result.now ≡ pages h = c.as_slice-pages.ensures ∙ follows.keeps.pages_are in
-    let list : c.as_slice.result.now ≡ reached s.limits.page h = c.as_slice.ensures ∙ c.in_ok-list.ensures s h follows in
-    let found : items_at c.args.contents.now.kept.pages c.in_ok-places.places ≡ files s.limits.page h =
-    c.in_ok-places.ensures s h follows ∙ ap (λ (pieces : List Piece). files_of h (builds s.limits.page h) pieces) list in
-    let held : c.as_slice-3.result.now ≡ map number_of (files s.limits.page h) =
+    let list : c.as_slice.result.now ≡ reached (page_limit s) h = c.as_slice.ensures ∙ c.in_ok-list.ensures s h follows in
+    let found : items_at c.args.contents.now.kept.pages c.in_ok-places.places ≡ files (page_limit s) h =
+    c.in_ok-places.ensures s h follows ∙ ap (λ (pieces : List Piece). files_of h (builds (page_limit s) h) pieces) list in
+    let held : c.as_slice-3.result.now ≡ map number_of (files (page_limit s) h) =
     c.as_slice-3.ensures
     ∙ c.in_ok-held.ensures
     ∙ ap (λ (list : List Page). map number_of (items_at list c.as_slice-2.result.now)) c.as_slice-pages.ensures
@@ -30,9 +31,9 @@ returns c = λ s h follows.
     c.in_ok-found.ensures
     ∙ ap (λ (list : List Page). map (removal unremoved) (filter (is_due_in c.as_slice-3.result.now c.as_slice-asked.result.now) list)) written
     ∙ ap (λ (numbers : List ℕ). map (removal unremoved) (filter (is_due_in numbers c.as_slice-asked.result.now) (pages h))) held
-    ∙ ap (λ (numbers : List ℕ). map (removal unremoved) (filter (is_due_in (map number_of (files s.limits.page h)) numbers) (pages h))) gone
+    ∙ ap (λ (numbers : List ℕ). map (removal unremoved) (filter (is_due_in (map number_of (files (page_limit s) h)) numbers) (pages h))) gone
     ∙ ap (map (removal unremoved))
-    (filter_alike (is_due_in (map number_of (files s.limits.page h)) (asked h)) (is_due h (files s.limits.page h)) (pages h)
+    (filter_alike (is_due_in (map number_of (files (page_limit s) h)) (asked h)) (is_due h (files (page_limit s) h)) (pages h)
     (λ (page : Page).
     ap (λ (b : Bool). not b && not (list_any (λ (number : ℕ). number == page.number) (asked h)))
-    (sym (any_map (λ (each : ℕ). each == page.number) number_of (files s.limits.page h)))))
+    (sym (any_map (λ (each : ℕ). each == page.number) number_of (files (page_limit s) h)))))

@@ -59,5 +59,6 @@ returns c = λ s h follows.
     ∙ seven (drops s h) (endings s h1) (drops s h2) (removals s unremoved h3) (grants s h4) (page_jobs s h5) (compactions s h6) in
     let ends : said_all h6 (compactions s h6) ≡ said_all h c.give_one-2.new.owed =
     sym
-    (ap (said_all h) whole ∙ said_seven h (drops s h) (endings s h1) (drops s h2) (removals s unremoved h3) (grants s h4) (page_jobs s h5) (compactions s h6)) in
+    (ap (said_all h) whole ∙ said_seven h (drops s h) (endings s h1) (drops s h2) (removals s unremoved h3) (grants s h4) (page_jobs s h5) (compactions s h6))
+    in
     (whole, subst (λ (k : History). FollowsCourse s k c.give_one-2.new.course) ends f7)

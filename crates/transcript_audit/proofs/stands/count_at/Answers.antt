@@ -12,6 +12,8 @@ loop-place-preserved c =
     let items : List Build = c.args.builds.now in
     let places : List ℕ = c.args.places.now in
     let i : ℕ = c.loop-place.place-index in
-    let grown : length (items_at items (take (i + 1) places)) ≡ length (items_at items (take i places)) + length (option_to_list (slice_get items (get_or places i 0))) =
-    ap (length {A = Build}) (place_more items places i (omega arith)) ∙ length-append (items_at items (take i places)) (option_to_list (slice_get items (get_or places i 0))) in
+    let grown : length (items_at items (take (i + 1) places)) ≡ length (items_at items (take i places)) + length
+    (option_to_list (slice_get items (get_or places i 0))) =
+    ap (length {A = Build}) (place_more items places i (omega arith)) ∙ length-append (items_at items (take i places))
+    (option_to_list (slice_get items (get_or places i 0))) in
     (omega (arith, grown, c.count_one-count.ensures.count, c.loop-place.invariant.0), omega (arith, c.count_one-count.ensures.small, c.loop-place.invariant.1))

@@ -6,6 +6,7 @@ use Rattle.blob_model.specs.Builds.{builds}
 use Rattle.blob_model.specs.Pieces.{pieces}
 use Rattle.blob_model.specs.Pages.{Page}
 use Rattle.blob_model.specs.Settle.{can_move}
+use Rattle.blob_model.specs.Session.{page_limit}
 use Rattle.transcript_audit.proofs.Turned.{found_here, passed_here}
 use Rattle.transcript_audit.proofs.starts.first_movable.Goals as goal
 
@@ -14,7 +15,7 @@ loop-place-preserved c = λ s h follows charged.
     let pages : List Page = c.args.contents.now.kept.pages in
     let places : List ℕ = c.args.places.now in
     let i : ℕ = c.loop-place.place-index in
-    let test : Page → Bool = can_move s h (builds s.limits.page h) (pieces s.limits.page h) c.args.list.now in
+    let test : Page → Bool = can_move s h (builds (page_limit s) h) (pieces (page_limit s) h) c.args.list.now in
     let fails : option_map_or test (slice_get pages (get_or places i 0)) false ≡ false = sym (c.in_ok-can.ensures s h follows charged) ∙ c.if-can.false in
     passed_here test pages places i (omega arith) fails ∙ c.loop-place.invariant s h follows charged
 
@@ -23,6 +24,6 @@ returns-then-can c = λ s h follows charged.
     let pages : List Page = c.args.contents.now.kept.pages in
     let places : List ℕ = c.args.places.now in
     let i : ℕ = c.loop-place.place-index in
-    let test : Page → Bool = can_move s h (builds s.limits.page h) (pieces s.limits.page h) c.args.list.now in
+    let test : Page → Bool = can_move s h (builds (page_limit s) h) (pieces (page_limit s) h) c.args.list.now in
     let passes : option_map_or test (slice_get pages (get_or places i 0)) false ≡ true = sym (c.in_ok-can.ensures s h follows charged) ∙ c.if-can.true in
     sym (found_here test pages places i (omega arith) passes) ∙ c.loop-place.invariant s h follows charged

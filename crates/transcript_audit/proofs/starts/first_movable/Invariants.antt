@@ -1,6 +1,6 @@
 use Rattle.std.proofs.Common.{◌≡◌, drop}
 use Rattle.std.specs.Prelude.{find}
-use Rattle.blob_model.specs.Session.{Session}
+use Rattle.blob_model.specs.Session.{Session, page_limit}
 use Rattle.blob_model.specs.History.{History}
 use Rattle.blob_model.specs.Builds.{builds}
 use Rattle.blob_model.specs.Pieces.{pieces}
@@ -12,6 +12,6 @@ use Rattle.transcript_audit.proofs.starts.first_movable.Given as goal
 
 abbrev pub invariant-loop-place : goal.invariant-loop-place
 invariant-loop-place l =
-    (s : Session) (h : History) → Follows s h l.contents → l.disk ≡ disk_of h (builds s.limits.page h) (pieces s.limits.page h) l.list
-    → find (can_move s h (builds s.limits.page h) (pieces s.limits.page h) l.list) (items_at l.contents.kept.pages (drop l.place-index l.places))
-    ≡ find (can_move s h (builds s.limits.page h) (pieces s.limits.page h) l.list) (items_at l.contents.kept.pages l.places)
+    (s : Session) (h : History) → Follows s h l.contents → l.disk ≡ disk_of h (builds (page_limit s) h) (pieces (page_limit s) h) l.list
+    → find (can_move s h (builds (page_limit s) h) (pieces (page_limit s) h) l.list) (items_at l.contents.kept.pages (drop l.place-index l.places))
+    ≡ find (can_move s h (builds (page_limit s) h) (pieces (page_limit s) h) l.list) (items_at l.contents.kept.pages l.places)

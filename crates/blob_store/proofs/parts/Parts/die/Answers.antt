@@ -8,6 +8,7 @@ use Rattle.blob_store.specs.declared.parts.Parts.{Parts}
 use Rattle.session_script.specs.declared.event.Event.TheVariants as events
 use Rattle.blob_model.specs.History.{history_from, start}
 use Rattle.blob_model.specs.Live.{is_live}
+use Rattle.blob_model.specs.Session.{page_limit}
 use Rattle.store_laws.proofs.TableRefusals.{die_known}
 use Rattle.blob_store.specs.Says.{scene, IsHeard, Says}
 use Rattle.blob_store.specs.Seen.{parts_of}
@@ -20,7 +21,7 @@ pub returns-in-Some-clause-says : goal.returns-in-Some-clause-says
 unfolding Says
 returns-in-Some-clause-says c told table s groups legal still stands =
     heard_refused s groups c.args.self.now told table legal stands (events.Die c.args.renderer) c.in-Some.why
-    (die_known s (history_from start groups) (is_live s.limits.page (history_from start groups)) (parts_of c.args.self.now) told table stands.between
+    (die_known s (history_from start groups) (is_live (page_limit s) (history_from start groups)) (parts_of c.args.self.now) told table stands.between
     c.args.renderer
     ∙ sym c.in-Some.ensures)
 
@@ -32,7 +33,8 @@ returns-clause-says c told table s groups legal still stands =
     let named = c.drop_urls.new.self in
     let dead = c.drop_handles.new.self in
     let due : renderer_refusal c.args.renderer old.renderers ≡ None = sym c.renderer_refusal.ensures ∙ c.in_default.is in
-    let after_urls = c.drop_urls.ensures.rest ∙ ap (λ (one : Parts). record one { registry = named.registry; urls = named.urls }) c.close_readers.ensures.rest in
+    let after_urls = c.drop_urls.ensures.rest ∙ ap (λ (one : Parts). record one { registry = named.registry; urls = named.urls }) c.close_readers.ensures.rest
+    in
     let after_all = c.drop_handles.ensures.rest ∙ ap (λ (one : Parts). record one { registry = dead.registry; renderers = dead.renderers }) after_urls in
     subst (λ (one : Parts). IsHeard s (history_from start groups) (events.Die c.args.renderer) (answers.Good ∷ []) (scene one told table)) (sym after_all)
     (heard_die s groups old told table legal stands c.args.renderer dead.registry dead.renderers named.urls read.readers due

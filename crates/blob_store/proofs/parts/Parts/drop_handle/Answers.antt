@@ -6,6 +6,7 @@ use Rattle.blob_entries.specs.Book.{Book}
 use Rattle.renderer_table.specs.Table.{Table}
 use Rattle.blob_model.specs.History.{history_from, start}
 use Rattle.blob_model.specs.Live.{is_live}
+use Rattle.blob_model.specs.Session.{page_limit}
 use Rattle.store_laws.proofs.LineRefusals.{drop_no_handle, drop_no_renderer, drop_refusal}
 use Rattle.blob_store.specs.Says.{Says}
 use Rattle.blob_store.specs.Seen.{parts_of}
@@ -42,7 +43,7 @@ returns-in-Err-NoRenderer-clause-says c told table s groups legal still stands =
     refused_still s groups c.args.self.now told table legal stands (events.Drop c.args.renderer c.args.name) (refusals.NoRenderer c.in-Err-NoRenderer.other)
     (record c.args.self.now { renderers = c.drop_one.new.self })
     (ap (λ (one : Table). record c.args.self.now { renderers = one }) c.in-Err-NoRenderer.ensures.err)
-    (drop_refusal s (history_from start groups) (is_live s.limits.page (history_from start groups)) (parts_of c.args.self.now) told table stands.between
+    (drop_refusal s (history_from start groups) (is_live (page_limit s) (history_from start groups)) (parts_of c.args.self.now) told table stands.between
     c.args.renderer c.args.name
     ∙ drop_no_renderer c.args.renderer c.args.name c.args.self.now.renderers c.in-Err-NoRenderer.other
     (rw c.in-Err-NoRenderer.field-0-is at c.in-Err-NoRenderer.ensures.fault))
@@ -54,6 +55,6 @@ returns-in-Err-NoHandle-clause-says c told table s groups legal still stands =
     (refusals.NoHandle c.args.renderer c.args.name)
     (record c.args.self.now { renderers = c.drop_one.new.self })
     (ap (λ (one : Table). record c.args.self.now { renderers = one }) c.in-Err-NoHandle.ensures.err)
-    (drop_refusal s (history_from start groups) (is_live s.limits.page (history_from start groups)) (parts_of c.args.self.now) told table stands.between
+    (drop_refusal s (history_from start groups) (is_live (page_limit s) (history_from start groups)) (parts_of c.args.self.now) told table stands.between
     c.args.renderer c.args.name
     ∙ drop_no_handle c.args.renderer c.args.name c.args.self.now.renderers (rw c.in-Err-NoHandle.field-0-is at c.in-Err-NoHandle.ensures.fault))

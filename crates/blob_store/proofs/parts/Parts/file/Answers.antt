@@ -8,6 +8,7 @@ use Rattle.file_table.specs.Changes.{Notes}
 use Rattle.file_table.specs.declared.file_note.FileNote.{FileNote}
 use Rattle.blob_model.specs.History.{history_from, start}
 use Rattle.blob_model.specs.Live.{is_live}
+use Rattle.blob_model.specs.Session.{page_limit}
 use Rattle.store_laws.proofs.TableRefusals.{file_known, file_refusal}
 use Rattle.blob_store.specs.Says.{Says}
 use Rattle.blob_store.specs.Seen.{parts_of}
@@ -35,7 +36,7 @@ returns-in-Err-StaleStamp-clause-says c told table s groups legal still stands =
     (refusals.StaleStamp c.in-Err-StaleStamp.last)
     (record c.args.self.now { files = c.note.new.self })
     (ap (λ (one : List (List ℕ × FileNote)). record c.args.self.now { files = one }) (rw c.in-Err-StaleStamp.field-0-is at c.in-Err-StaleStamp.ensures.fault).0)
-    (file_known s (history_from start groups) (is_live s.limits.page (history_from start groups)) (parts_of c.args.self.now) told table stands.between
+    (file_known s (history_from start groups) (is_live (page_limit s) (history_from start groups)) (parts_of c.args.self.now) told table stands.between
     c.args.name.now c.args.stamp c.args.bytes.now
     ∙ ap (option_map file_refusal) (rw c.in-Err-StaleStamp.field-0-is at c.in-Err-StaleStamp.ensures.fault).1)
 
@@ -46,6 +47,6 @@ returns-in-Err-Full-clause-says c told table s groups legal still stands =
     (refusals.TooMany numbered.Files)
     (record c.args.self.now { files = c.note.new.self })
     (ap (λ (one : List (List ℕ × FileNote)). record c.args.self.now { files = one }) (rw c.in-Err-Full.field-0-is at c.in-Err-Full.ensures.fault).0)
-    (file_known s (history_from start groups) (is_live s.limits.page (history_from start groups)) (parts_of c.args.self.now) told table stands.between
+    (file_known s (history_from start groups) (is_live (page_limit s) (history_from start groups)) (parts_of c.args.self.now) told table stands.between
     c.args.name.now c.args.stamp c.args.bytes.now
     ∙ ap (option_map file_refusal) (rw c.in-Err-Full.field-0-is at c.in-Err-Full.ensures.fault).1)

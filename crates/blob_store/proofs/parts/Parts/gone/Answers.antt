@@ -8,6 +8,7 @@ use Rattle.answer_text.specs.declared.refusal.Refusal.TheVariants as refusals
 use Rattle.session_script.specs.declared.event.Event.TheVariants as events
 use Rattle.blob_model.specs.History.{history_from, start}
 use Rattle.blob_model.specs.Live.{is_live}
+use Rattle.blob_model.specs.Session.{page_limit}
 use Rattle.store_laws.proofs.TableRefusals.{gone_refused}
 use Rattle.blob_store.specs.Says.{Says}
 use Rattle.blob_store.specs.Seen.{parts_of}
@@ -37,5 +38,5 @@ returns-in-Err-clause-says c told table s groups legal still stands =
     refused_still s groups c.args.self.now told table legal stands (events.Gone c.args.name.now) refusals.NoFile
     (record c.args.self.now { files = c.forget.new.self })
     (ap (λ (one : List (List ℕ × FileNote)). record c.args.self.now { files = one }) c.in-Err.ensures.cases.1)
-    (gone_refused s (history_from start groups) (is_live s.limits.page (history_from start groups)) (parts_of c.args.self.now) told table stands.between
+    (gone_refused s (history_from start groups) (is_live (page_limit s) (history_from start groups)) (parts_of c.args.self.now) told table stands.between
     c.args.name.now c.in-Err.ensures.cases.0)

@@ -7,6 +7,7 @@ use Rattle.blob_entries.specs.Book.{Book}
 use Rattle.renderer_table.specs.Table.{Table}
 use Rattle.blob_model.specs.History.{history_from, start}
 use Rattle.blob_model.specs.Live.{is_live}
+use Rattle.blob_model.specs.Session.{page_limit}
 use Rattle.store_laws.proofs.TableRefusals.{pass_known, pass_refusal}
 use Rattle.blob_store.specs.Says.{Says}
 use Rattle.blob_store.specs.Seen.{parts_of}
@@ -60,7 +61,7 @@ returns-in-Err-NoRenderer-clause-says c told table s groups legal still stands =
     (refusals.NoRenderer c.in-Err-NoRenderer.other)
     (record c.args.self.now { renderers = c.pass.new.self })
     (ap (λ (one : Table). record c.args.self.now { renderers = one }) (rw c.in-Err-NoRenderer.field-0-is at c.in-Err-NoRenderer.ensures.fault).0)
-    (pass_known s (history_from start groups) (is_live s.limits.page (history_from start groups)) (parts_of c.args.self.now) told table stands.between
+    (pass_known s (history_from start groups) (is_live (page_limit s) (history_from start groups)) (parts_of c.args.self.now) told table stands.between
     c.args.renderer c.args.to c.args.name
     ∙ ap (option_map (pass_refusal c.args.renderer c.args.name)) (rw c.in-Err-NoRenderer.field-0-is at c.in-Err-NoRenderer.ensures.fault).1)
 
@@ -71,6 +72,6 @@ returns-in-Err-NoHandle-clause-says c told table s groups legal still stands =
     (refusals.NoHandle c.args.renderer c.args.name)
     (record c.args.self.now { renderers = c.pass.new.self })
     (ap (λ (one : Table). record c.args.self.now { renderers = one }) (rw c.in-Err-NoHandle.field-0-is at c.in-Err-NoHandle.ensures.fault).0)
-    (pass_known s (history_from start groups) (is_live s.limits.page (history_from start groups)) (parts_of c.args.self.now) told table stands.between
+    (pass_known s (history_from start groups) (is_live (page_limit s) (history_from start groups)) (parts_of c.args.self.now) told table stands.between
     c.args.renderer c.args.to c.args.name
     ∙ ap (option_map (pass_refusal c.args.renderer c.args.name)) (rw c.in-Err-NoHandle.field-0-is at c.in-Err-NoHandle.ensures.fault).1)

@@ -9,7 +9,8 @@ returns-in_default c =
 
 pub returns-then-open-renderer : goal.returns-then-open-renderer
 returns-then-open-renderer c =
-    reader_of_another c.args.renderer c.args.reader c.args.self.now.renderers c.args.self.now.readers (search rules) c.in-Some.open.now (search rules) (search rules)
+    reader_of_another c.args.renderer c.args.reader c.args.self.now.renderers c.args.self.now.readers (search rules) c.in-Some.open.now (search rules)
+    (search rules)
 
 pub returns : goal.returns
 returns c =

@@ -10,6 +10,7 @@ use Rattle.url_store.specs.declared.url.Url.{Url}
 use Rattle.session_script.specs.declared.event.Event.TheVariants as events
 use Rattle.blob_model.specs.History.{history_from, start}
 use Rattle.blob_model.specs.Live.{is_live}
+use Rattle.blob_model.specs.Session.{page_limit}
 use Rattle.store_laws.specs.TableLaws.{renderer_refusal}
 use Rattle.store_laws.proofs.TableRefusals.{revoke_known}
 use Rattle.blob_store.specs.Says.{scene, IsHeard, Says}
@@ -25,7 +26,7 @@ pub returns-in-Some-clause-says : goal.returns-in-Some-clause-says
 unfolding Says
 returns-in-Some-clause-says c told table s groups legal still stands =
     heard_refused s groups c.args.self.now told table legal stands (events.Revoke c.args.renderer c.args.text.now) c.in-Some.why
-    (revoke_known s (history_from start groups) (is_live s.limits.page (history_from start groups)) (parts_of c.args.self.now) told table stands.between
+    (revoke_known s (history_from start groups) (is_live (page_limit s) (history_from start groups)) (parts_of c.args.self.now) told table stands.between
     c.args.renderer c.args.text.now
     ∙ sym c.in-Some.ensures)
 

@@ -6,6 +6,7 @@ use Rattle.session_script.specs.declared.event.Event.TheVariants as events
 use Rattle.renderer_table.specs.Table.{Table}
 use Rattle.blob_model.specs.History.{history_from, start}
 use Rattle.blob_model.specs.Live.{is_live}
+use Rattle.blob_model.specs.Session.{page_limit}
 use Rattle.store_laws.proofs.LineRefusals.{spawn_full, spawn_used}
 use Rattle.blob_store.specs.Says.{Says}
 use Rattle.blob_store.specs.Seen.{parts_of}
@@ -33,7 +34,7 @@ returns-in-Err-Used-clause-says c told table s groups legal still stands =
     refused_still s groups c.args.self.now told table legal stands (events.Spawn c.args.renderer c.args.origin.now) (refusals.RendererUsed c.args.renderer)
     (record c.args.self.now { renderers = c.spawn.new.self })
     (ap (λ (one : Table). record c.args.self.now { renderers = one }) (rw c.in-Err-Used.field-0-is at c.in-Err-Used.ensures.fault).0)
-    (spawn_used s (history_from start groups) (is_live s.limits.page (history_from start groups)) (parts_of c.args.self.now) told table stands.between
+    (spawn_used s (history_from start groups) (is_live (page_limit s) (history_from start groups)) (parts_of c.args.self.now) told table stands.between
     c.args.renderer c.args.origin.now (rw c.in-Err-Used.field-0-is at c.in-Err-Used.ensures.fault).1)
 
 pub returns-in-Err-Full-clause-says : goal.returns-in-Err-Full-clause-says
@@ -43,5 +44,5 @@ returns-in-Err-Full-clause-says c told table s groups legal still stands =
     (refusals.TooMany numbered.Renderers)
     (record c.args.self.now { renderers = c.spawn.new.self })
     (ap (λ (one : Table). record c.args.self.now { renderers = one }) (rw c.in-Err-Full.field-0-is at c.in-Err-Full.ensures.fault).0)
-    (spawn_full s (history_from start groups) (is_live s.limits.page (history_from start groups)) (parts_of c.args.self.now) told table stands.between
+    (spawn_full s (history_from start groups) (is_live (page_limit s) (history_from start groups)) (parts_of c.args.self.now) told table stands.between
     c.args.renderer c.args.origin.now (rw c.in-Err-Full.field-0-is at c.in-Err-Full.ensures.fault).1)

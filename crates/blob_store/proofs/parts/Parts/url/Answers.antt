@@ -10,6 +10,7 @@ use Rattle.renderer_table.specs.Counted.{origin_at}
 use Rattle.url_store.specs.declared.url.Url.{Url}
 use Rattle.blob_model.specs.History.{history_from, start}
 use Rattle.blob_model.specs.Live.{is_live}
+use Rattle.blob_model.specs.Session.{page_limit}
 use Rattle.store_laws.specs.LineLaws.{handle_refusal}
 use Rattle.store_laws.proofs.UrlRefusals.{url_unhandled}
 use Rattle.blob_store.specs.Says.{Says}
@@ -24,7 +25,7 @@ pub returns-in-Some-clause-says : goal.returns-in-Some-clause-says
 unfolding Says
 returns-in-Some-clause-says c told table s groups legal still stands =
     heard_refused s groups c.args.self.now told table legal stands (events.Url c.args.renderer c.args.name c.args.text.now) c.in-Some.why
-    (url_unhandled s (history_from start groups) (is_live s.limits.page (history_from start groups)) (parts_of c.args.self.now) told table stands.between
+    (url_unhandled s (history_from start groups) (is_live (page_limit s) (history_from start groups)) (parts_of c.args.self.now) told table stands.between
     c.args.renderer c.args.name c.args.text.now c.in-Some.why (sym c.handle_refusal.ensures ∙ c.in-Some.is))
 
 pub hold-requires : goal.hold-requires
@@ -86,6 +87,7 @@ returns-in-Err-Full-clause-says c told table s groups legal still stands =
     let at : origin_at c.args.renderer.0 parts.renderers ≡ Some c.unwrap-origin.result.now =
     sym c.origin_of.ensures ∙ ap option_copied c.unwrap-origin.ensures in
     let why = rw c.in-Err-Full.field-0-is at c.in-Err-Full.ensures.fault in
-    heard_still s groups parts told table legal stands (events.Url c.args.renderer c.args.name c.args.text.now) (answers.Refused (refusals.TooMany numbered.Urls) ∷ [])
+    heard_still s groups parts told table legal stands (events.Url c.args.renderer c.args.name c.args.text.now)
+    (answers.Refused (refusals.TooMany numbered.Urls) ∷ [])
     (record parts { urls = c.add.new.self }) (ap (λ (urls : List (List ℕ × Url)). record parts { urls = urls }) why.0)
     (heard_full s groups parts told table legal stands c.args.renderer c.args.name c.args.text.now c.unwrap-origin.result.now due at why.1.0 why.1.1 why.1.2)

@@ -5,6 +5,7 @@ use Rattle.blob_model.specs.Builds.{Build, builds}
 use Rattle.blob_model.specs.Tally.{files_of}
 use Rattle.blob_model.specs.Pieces.{Piece, pieces}
 use Rattle.blob_model.specs.Pages.{Page, page_size}
+use Rattle.blob_model.specs.Session.{page_limit}
 use Rattle.history_notions.specs.Placed.{holds_some}
 use Rattle.history_notions.proofs.Lifted.{files_follow}
 use Rattle.history_notions.proofs.contents.Contents.file_bytes.Goals as goal
@@ -15,8 +16,10 @@ returns c = λ s h follows.
     let written : List Page = c.args.self.now.kept.pages in
     let blobs : List Build = c.args.self.now.builds in
     c.in_ok-bytes.ensures
-    ∙ ap (λ (all : List Piece). sum_by (page_size all) (filter (holds_some c.as_slice-pages.result.now c.as_slice-blobs.result.now list) c.as_slice-pages.result.now)) c.as_slice-all.ensures
-    ∙ ap (λ (pages : List Page). sum_by (page_size c.args.self.now.pieces) (filter (holds_some pages c.as_slice-blobs.result.now list) pages)) c.as_slice-pages.ensures
+    ∙ ap (λ (all : List Piece). sum_by (page_size all) (filter (holds_some c.as_slice-pages.result.now c.as_slice-blobs.result.now list)
+    c.as_slice-pages.result.now)) c.as_slice-all.ensures
+    ∙ ap (λ (pages : List Page). sum_by (page_size c.args.self.now.pieces) (filter (holds_some pages c.as_slice-blobs.result.now list) pages))
+    c.as_slice-pages.ensures
     ∙ ap (λ (each : List Build). sum_by (page_size c.args.self.now.pieces) (filter (holds_some written each list) written)) c.as_slice-blobs.ensures
     ∙ ap (sum_by (page_size c.args.self.now.pieces)) (files_follow s h c.args.self.now list follows)
-    ∙ ap (λ (all : List Piece). sum_by (page_size all) (files_of h (builds s.limits.page h) list)) follows.pieces_are
+    ∙ ap (λ (all : List Piece). sum_by (page_size all) (files_of h (builds (page_limit s) h) list)) follows.pieces_are

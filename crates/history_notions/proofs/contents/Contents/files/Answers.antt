@@ -11,7 +11,8 @@ use Rattle.history_notions.proofs.contents.Contents.files.Goals as goal
 pub returns : goal.returns
 returns c = λ s h follows.
     let written : List Page = c.args.self.now.kept.pages in
-    subst (λ (pages : List Page). items_at pages c.in_ok-places.places ≡ filter (holds_some pages c.as_slice.result.now c.args.list.now) pages) c.as_slice-pages.ensures
+    subst (λ (pages : List Page). items_at pages c.in_ok-places.places ≡ filter (holds_some pages c.as_slice.result.now c.args.list.now) pages)
+    c.as_slice-pages.ensures
     c.in_ok-places.ensures
     ∙ ap (λ (blobs : List Build). filter (holds_some written blobs c.args.list.now) written) c.as_slice.ensures
     ∙ files_follow s h c.args.self.now c.args.list.now follows

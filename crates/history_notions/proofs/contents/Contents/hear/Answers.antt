@@ -7,6 +7,7 @@ use Rattle.blob_model.specs.History.{heard}
 use Rattle.blob_model.specs.Builds.{Build, builds, builds_after}
 use Rattle.blob_model.specs.Pieces.{Piece, pieces_from}
 use Rattle.blob_model.specs.Readers.{readers_after}
+use Rattle.blob_model.specs.Session.{page_limit}
 use Rattle.history_notions.specs.declared.kept.Kept.{Kept}
 use Rattle.history_notions.specs.Keeps.{Keeps}
 use Rattle.history_notions.specs.Silent.{outside_of}
@@ -18,14 +19,14 @@ returns c = λ s h follows.
     let answer : Answer = c.args.answer.now in
     let old = c.args.self.now in
     let new = c.put_made.new.self in
-    let page : old.limits.page ≡ s.limits.page = ap (λ (l : Limits). l.page) follows.limits_are in
-    let blobs : new.builds ≡ builds s.limits.page (heard h event answer) =
+    let page : old.limits.page ≡ (page_limit s) = ap (λ (l : Limits). l.page) follows.limits_are in
+    let blobs : new.builds ≡ builds (page_limit s) (heard h event answer) =
     c.in_ok-put_made.ensures.builds
     ∙ ap (λ (size : ℕ). builds_after size event answer old.builds) page
-    ∙ ap (builds_after s.limits.page event answer) follows.builds_are in
+    ∙ ap (builds_after (page_limit s) event answer) follows.builds_are in
     let before : old.pieces ≡ pieces_from old.limits.page 0 old.builds =
     follows.pieces_are
-    ∙ sym (ap (pieces_from s.limits.page 0) follows.builds_are)
+    ∙ sym (ap (pieces_from (page_limit s) 0) follows.builds_are)
     ∙ sym (ap (λ (size : ℕ). pieces_from size 0 old.builds) page) in
     record {
       keeps = subst (λ (kept : Kept). Keeps (heard h event answer) kept) (sym c.in_ok-put_made.ensures.kept) (c.in_ok-hear-2.ensures h follows.keeps);
@@ -35,8 +36,8 @@ returns c = λ s h follows.
       builds_are = blobs;
       pieces_are = c.in_ok-put_made.ensures.pieces before
           ∙ ap (λ (size : ℕ). pieces_from size 0 new.builds) page
-          ∙ ap (pieces_from s.limits.page 0) blobs;
+          ∙ ap (pieces_from (page_limit s) 0) blobs;
       readers_are = c.in_ok-put_made.ensures.readers
-          ∙ c.in_ok-hear.ensures s.limits.page h follows.keeps (c.as_slice-builds.ensures ∙ follows.builds_are)
-          ∙ ap (readers_after s.limits.page h event answer) follows.readers_are;
+          ∙ c.in_ok-hear.ensures (page_limit s) h follows.keeps (c.as_slice-builds.ensures ∙ follows.builds_are)
+          ∙ ap (readers_after (page_limit s) h event answer) follows.readers_are;
     }

@@ -11,4 +11,5 @@ pub returns : goal.returns
 returns c = λ s h follows.
     c.is_some_lost-lacks.ensures
     ∙ ap (list_any (is_lost_in c.args.self.now c.args.renderer)) (c.as_slice.ensures ∙ c.in_ok-names.ensures)
-    ∙ any_alike (is_lost_in c.args.self.now c.args.renderer) (is_lost_source h c.args.renderer) (sources c.args.parts.now) (lost_same s h c.args.self.now follows c.args.renderer)
+    ∙ any_alike (is_lost_in c.args.self.now c.args.renderer) (is_lost_source h c.args.renderer) (sources c.args.parts.now)
+    (lost_same s h c.args.self.now follows c.args.renderer)

@@ -13,5 +13,6 @@ returns c = λ s h follows.
     let limits : Limits = c.args.self.now.limits in
     c.in_ok-found.ensures
     ∙ ap (λ (brought : List Brought). missing_in limits brought build) c.as_slice-brought.ensures
-    ∙ ap (λ (came : List Arrival). filter (λ (segment : ℕ). not (has_come came segment)) (range_with_len 0 (length (spans limits build)))) (follows.keeps.arrivals_are build.name)
+    ∙ ap (λ (came : List Arrival). filter (λ (segment : ℕ). not (has_come came segment)) (range_with_len 0 (length (spans limits build))))
+    (follows.keeps.arrivals_are build.name)
     ∙ ap (λ (l : Limits). missing l h build) follows.limits_are

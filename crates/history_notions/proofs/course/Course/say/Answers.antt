@@ -5,6 +5,7 @@ use Rattle.answer_text.specs.declared.answer.Answer.TheVariants as answers
 use Rattle.blob_model.specs.History.{History}
 use Rattle.blob_model.specs.Pieces.{Piece, pieces}
 use Rattle.blob_model.specs.Victims.{used_by_answer}
+use Rattle.blob_model.specs.Session.{page_limit}
 use Rattle.history_notions.specs.Uses.{use_done}
 use Rattle.history_notions.proofs.course.Course.say.Goals as goal
 
@@ -17,6 +18,6 @@ returns c = λ s h follows. record {
   follows = c.in_ok-say.ensures s h follows.follows;
   uses_are = c.in_ok-use_done.ensures
       ∙ ap (λ (list : List Piece). use_done list c.args.answer.now c.args.self.now.uses.items) (c.as_slice.ensures ∙ follows.follows.pieces_are)
-      ∙ done_same s.limits.page h c.args.answer.now c.args.self.now.uses.items
-      ∙ ap (used_by_answer s.limits.page h c.args.answer.now) follows.uses_are;
+      ∙ done_same (page_limit s) h c.args.answer.now c.args.self.now.uses.items
+      ∙ ap (used_by_answer (page_limit s) h c.args.answer.now) follows.uses_are;
 }
