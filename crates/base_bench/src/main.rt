@@ -1,5 +1,5 @@
-//! Times the calls on the lists below a store: pieces, items, builds that wait, views, and the first
-//! number that is small enough. Without a word behind the program's name it does nothing.
+//! Times the calls on the lists below a store: pieces, items, builds that wait, views, and the
+//! first number that is small enough. Without a word behind the program's name it does nothing.
 #![tactic(auto)]
 
 mod draws;

@@ -1,5 +1,6 @@
 //! The refusals of the lines that build.
 ghost use Rattle.std.specs.Prelude.{◌≡◌, ℕ, ◌+◌, ◌++◌, List, length, nat_lt, sum_by, IfOk};
+ghost use Rattle.blob_words.specs.declared.bounds.TheConstants.{MOST_PIECES};
 ghost use Rattle.session_script.specs.declared.event.Event.TheVariants as events;
 ghost use Rattle.blob_model.specs.Session.{Session, page_limit};
 ghost use Rattle.blob_model.specs.History.{History};
@@ -131,7 +132,7 @@ impl Contents {
     // Whether there would be too many pieces.
     fn has_many_pieces(&self, parts: &[Part]) -> Result<bool, NoMemory>
         ensures { IfOk result (λ many. (s : Session) (h : History) → Follows s h self.now
-            → many ≡ nat_lt 65536
+            → many ≡ nat_lt MOST_PIECES
             (piece_total s h + piece_count (page_limit s) (own_lengths parts.now))) }
     {
         let more = piece_count(self.alloc, self.limits.page, parts)?;

@@ -15,8 +15,8 @@ pub fn table_lines_stand()
     ensures { TableLinesStand }
 {}
 
-/// The parts stand for the history with a line that opens a reader on a blob, by its name or by a URL
-/// that leads to it.
+/// The parts stand for the history with a line that opens a reader on a blob, by its name or by
+/// a URL that leads to it.
 pub fn openings_stand()
     ensures { OpeningsStand }
 {}

@@ -19,7 +19,8 @@ use std::alloc::Global;
 
 /// Whether the blob at the place has the name.
 fn has_name(builds: &[Build], name: BlobName, place: usize) -> bool
-    ensures { result ≡ option_map_or (λ build. build.name == name) (slice_get builds.now place) false }
+    ensures { result
+        ≡ option_map_or (λ build. build.name == name) (slice_get builds.now place) false }
 {
     match builds.get(place) {
         Some(build) => build.name == name,

@@ -99,7 +99,8 @@ fn is_unstored(contents: &Contents, build: &Build) -> bool
     }
 }
 
-/// Whether the write of the blob failed in this line, or the line turned paging off while it waited.
+/// Whether the write of the blob failed in this line, or the line turned paging off while it
+/// waited.
 fn is_unwritten(contents: &Contents, build: &Build) -> bool
     ensures { (s : Session) (h : History) → Follows s h contents.now
         → result ≡ is_unwritten s h build.now }

@@ -155,7 +155,8 @@ pub fn page_job(course: &Course) -> Result<Option<Answer>, NoMemory>
 fn can_move(contents: &Contents, list: &[Piece], disk: u128, page: &Page) -> Result<bool, NoMemory>
     ensures { IfOk result (λ can. (s : Session) (h : History) → Follows s h contents.now
         → disk ≡ disk_of h (builds (page_limit s) h) (pieces (page_limit s) h) list.now
-        → can ≡ can_move s h (builds (page_limit s) h) (pieces (page_limit s) h) list.now page.now) }
+        → can
+        ≡ can_move s h (builds (page_limit s) h) (pieces (page_limit s) h) list.now page.now) }
 {
     let inside = contents.in_page(page, list)?;
     let bytes = bytes_of(inside.as_slice());
