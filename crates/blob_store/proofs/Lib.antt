@@ -18,3 +18,5 @@ pub mod HeardTables
 pub mod Rerooted
 pub mod Leaving
 pub mod Refusing
+pub mod OwnBytes
+pub mod Slots

@@ -48,3 +48,7 @@ pub mod Entering
 pub mod NameForms
 pub mod UrlForms
 pub mod UrlRefusals
+pub mod Deciding
+pub mod Decided
+pub mod SlotTests
+pub mod BuildRefusals

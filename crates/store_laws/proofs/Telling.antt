@@ -81,12 +81,12 @@ module _ (s : Session) (h : History) (stands : ℕ → Bool) (name : ℕ) (entry
 
 module _ (s : Session) (h : History) (stands : ℕ → Bool) (parts : Parts) (told : Option (List Change)) (table : HandleTable)
     (between : Between s h stands parts told table) (name : ℕ) (entry : Entry) (at : entry_of parts.book name ≡ Some entry) where
-  built : IsBuiltAs s h (builds s.limits.page h) name entry
+  pub built : IsBuiltAs s h (builds s.limits.page h) name entry
   built =
       entry_built s h stands name entry (builds s.limits.page h) parts.book.entries between.contents.outlines_stand
       (ap (λ (names : List ℕ). option_and_then (entry_at parts.book.entries) (number_of name names)) (sym between.contents.names) ∙ at)
 
-  size_told : entry.size ≡ size_in (builds s.limits.page h) name
+  pub size_told : entry.size ≡ size_in (builds s.limits.page h) name
   size_told =
       ap (λ (o : Outline). o.size) built.outline_is
       ∙ sym (ap (λ (o : Option Build). option_map_or (λ (build : Build). (outline_of s h build).size) o 0) built.found)

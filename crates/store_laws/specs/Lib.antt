@@ -27,3 +27,5 @@ pub mod BuildLaws
 pub mod PartLaws
 pub mod EntryLaws
 pub mod UrlForms
+pub mod Deciding
+pub mod DecidingLaws
