@@ -233,12 +233,15 @@ module _ (s : Session) (h : History) (stands : ℕ → Bool) (parts : Parts) (to
     pub status_known : AreHeldThere parts → (renderer name : ℕ) (line : List Part) → AreUnclaimed s h (claims line)
         → line_status_in parts table renderer name line ≡ line_status s h renderer name line
     status_known there renderer name line free =
-        ap (λ (bit : Bool). tests line bit (list_any (is_lost_in parts renderer) line) (list_any (is_unrecorded_in parts) line) (is_out_of_memory (plan_in parts line)))
+        ap (λ (bit : Bool).
+        tests line bit (list_any (is_lost_in parts renderer) line) (list_any (is_unrecorded_in parts) line) (is_out_of_memory (plan_in parts line)))
         (invalid_known there renderer name line free)
-        ∙ ap (λ (bit : Bool). tests line (list_any (is_invalid s h renderer name) line) bit (list_any (is_unrecorded_in parts) line) (is_out_of_memory (plan_in parts line)))
+        ∙ ap (λ (bit : Bool).
+        tests line (list_any (is_invalid s h renderer name) line) bit (list_any (is_unrecorded_in parts) line) (is_out_of_memory (plan_in parts line)))
         (sources_known there renderer line)
         ∙ ap (λ (bit : Bool).
-        tests line (list_any (is_invalid s h renderer name) line) (list_any (is_lost_source h renderer) (sources line)) bit (is_out_of_memory (plan_in parts line)))
+        tests line (list_any (is_invalid s h renderer name) line) (list_any (is_lost_source h renderer) (sources line)) bit
+        (is_out_of_memory (plan_in parts line)))
         (files_known line)
         ∙ ap (λ (plan : Plan).
         tests line (list_any (is_invalid s h renderer name) line) (list_any (is_lost_source h renderer) (sources line)) (list_any (is_unrecorded h) line)
