@@ -20,3 +20,5 @@ pub mod Leaving
 pub mod Refusing
 pub mod Opened
 pub mod HeardReaders
+pub mod OwnBytes
+pub mod Slots

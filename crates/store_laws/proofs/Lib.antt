@@ -52,3 +52,7 @@ pub mod Told
 pub mod Resolving
 pub mod Openings
 pub mod OpeningRefusals
+pub mod Deciding
+pub mod Decided
+pub mod SlotTests
+pub mod BuildRefusals

@@ -94,7 +94,7 @@ broken_so status = refl
 
 module _ (s : Session) (h : History) (stands : ℕ → Bool) (parts : Parts) (told : Option (List Change)) (table : HandleTable)
     (between : Between s h stands parts told table) (name : ℕ) (entry : Entry) (at : entry_of parts.book name ≡ Some entry) where
-  built : IsBuiltAs s h (builds (page_limit s) h) name entry
+  pub built : IsBuiltAs s h (builds (page_limit s) h) name entry
   built =
       entry_built s h stands name entry (builds (page_limit s) h) parts.book.entries between.contents.outlines_stand
       (ap (λ (names : List ℕ). option_and_then (entry_at parts.book.entries) (number_of name names)) (sym between.contents.names) ∙ at)

@@ -29,3 +29,5 @@ pub mod PartLaws
 pub mod EntryLaws
 pub mod UrlForms
 pub mod TellLaws
+pub mod Deciding
+pub mod DecidingLaws

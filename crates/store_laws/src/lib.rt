@@ -1,5 +1,6 @@
 //! When the parts of a store stand for a history, and laws of what follows.
 #![tactic(auto)]
 
+mod deciding_laws;
 mod laws;
 mod table_laws;

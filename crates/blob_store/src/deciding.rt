@@ -1,0 +1,6 @@
+//! How a line that builds is decided. These functions only look.
+
+mod faults;
+mod plan;
+mod slots;
+mod status;
