@@ -36,7 +36,7 @@ use Rattle.blob_model.specs.Parts.{claims, own_lengths, parts_length, sources}
 use Rattle.blob_model.specs.Pieces.{Piece, pieces}
 use Rattle.blob_model.specs.Refusals.{claimed, is_in, is_many_segments, many_pieces, many_segments, many_views, name_used, no_handle, no_renderer, piece_total, refusal, slot_refusals, stands_at_line, too_many_blobs, weight_total}
 use Rattle.blob_model.specs.Renderers.{is_alive}
-use Rattle.blob_model.specs.Session.{Session, Slot}
+use Rattle.blob_model.specs.Session.{Session, Slot, page_limit}
 use Rattle.blob_model.specs.Standing.{is_broken as is_broken_now}
 use Rattle.blob_model.proofs.Lists.{get_there, not_false}
 use Rattle.blob_model.proofs.legal.Totals.{pieces_counted}
@@ -193,7 +193,7 @@ module _ (s : Session) (h : History) (stands : ℕ → Bool) (parts : Parts) (to
   name_known : (name : ℕ) → name_used_in parts name ≡ name_used s h name
   name_known name =
       ap (λ (b : Bool). (b, refusals.NameUsed name))
-      (ap (λ (names : List ℕ). is_some (number_of name names)) between.contents.names ∙ named_so name (builds s.limits.page h))
+      (ap (λ (names : List ℕ). is_some (number_of name names)) between.contents.names ∙ named_so name (builds (page_limit s) h))
 
   hold_known : (renderer : RendererId) (b : ℕ) → no_handle_in parts renderer b ≡ no_handle h renderer b
   hold_known renderer b =
@@ -202,7 +202,7 @@ module _ (s : Session) (h : History) (stands : ℕ → Bool) (parts : Parts) (to
   blobs_known : many_blobs_in parts ≡ too_many_blobs s h
   blobs_known =
       ap (λ (n : ℕ). (nat_le 65536 n, refusals.TooMany counted.Blobs))
-      (ap (λ (names : List ℕ). length names) between.contents.names ∙ length-map (builds s.limits.page h) (λ (build : Build). build.name))
+      (ap (λ (names : List ℕ). length names) between.contents.names ∙ length-map (builds (page_limit s) h) (λ (build : Build). build.name))
 
   -- ---- slots
 
@@ -225,9 +225,9 @@ module _ (s : Session) (h : History) (stands : ℕ → Bool) (parts : Parts) (to
   -- ---- weights
 
   weight_known : (b : ℕ) (entry : Entry) → entry_of parts.book b ≡ Some entry
-      → weight_in parts b ≡ option_map_or (λ (build : Build). build.weight) (build_in (builds s.limits.page h) b) 0
+      → weight_in parts b ≡ option_map_or (λ (build : Build). build.weight) (build_in (builds (page_limit s) h) b) 0
   weight_known b entry at =
-      let list = builds s.limits.page h in
+      let list = builds (page_limit s) h in
       let numbers : number_of b parts.book.names ≡ number_of b (map (λ (build : Build). build.name) list) =
       ap (number_of b) between.contents.names in
       ap (λ (found : Option ℕ).
@@ -237,7 +237,7 @@ module _ (s : Session) (h : History) (stands : ℕ → Bool) (parts : Parts) (to
 
   module _ (there : AreHeldThere parts) (renderer : ℕ) where
     part_known : (b : ℕ) → is_lost_source h renderer b ≡ false
-        → weight_in parts b ≡ option_map_or (λ (build : Build). build.weight) (build_in (builds s.limits.page h) b) 0
+        → weight_in parts b ≡ option_map_or (λ (build : Build). build.weight) (build_in (builds (page_limit s) h) b) 0
     part_known b kept = by (entry_of parts.book b) refl
       where
         held : holds parts renderer b ≡ true
@@ -246,23 +246,23 @@ module _ (s : Session) (h : History) (stands : ℕ → Bool) (parts : Parts) (to
             ∙ not_false (has_handle h renderer b) (or_parts (not (has_handle h renderer b)) (is_broken_now h b) kept).0
 
         by : (found : Option Entry) → entry_of parts.book b ≡ found
-            → weight_in parts b ≡ option_map_or (λ (build : Build). build.weight) (build_in (builds s.limits.page h) b) 0
+            → weight_in parts b ≡ option_map_or (λ (build : Build). build.weight) (build_in (builds (page_limit s) h) b) 0
         by (Some entry) at = weight_known b entry at
         by None at =
             let stands_there = there renderer b (ltb-true 0 (count_of renderer b parts.renderers) held) in
             absurd (cc (sym (ap (λ (found : Option Entry). is_some found) at) ∙ stands_there))
 
-    one_more : (part : Part) (line : List Part) → part_weight_in parts part ≡ part_weight s.limits.page (builds s.limits.page h) part
-        → line_weight_in parts line ≡ parts_weight s.limits.page (builds s.limits.page h) line
-        → line_weight_in parts (part ∷ line) ≡ parts_weight s.limits.page (builds s.limits.page h) (part ∷ line)
+    one_more : (part : Part) (line : List Part) → part_weight_in parts part ≡ part_weight (page_limit s) (builds (page_limit s) h) part
+        → line_weight_in parts line ≡ parts_weight (page_limit s) (builds (page_limit s) h) line
+        → line_weight_in parts (part ∷ line) ≡ parts_weight (page_limit s) (builds (page_limit s) h) (part ∷ line)
     one_more part line same rest =
         sum_by-cons (part_weight_in parts) part line
         ∙ ap (λ (n : ℕ). n + line_weight_in parts line) same
-        ∙ ap (λ (n : ℕ). part_weight s.limits.page (builds s.limits.page h) part + n) rest
-        ∙ sym (sum_by-cons (part_weight s.limits.page (builds s.limits.page h)) part line)
+        ∙ ap (λ (n : ℕ). part_weight (page_limit s) (builds (page_limit s) h) part + n) rest
+        ∙ sym (sum_by-cons (part_weight (page_limit s) (builds (page_limit s) h)) part line)
 
     weights_known : (line : List Part) → list_any (is_lost_source h renderer) (sources line) ≡ false
-        → line_weight_in parts line ≡ parts_weight s.limits.page (builds s.limits.page h) line
+        → line_weight_in parts line ≡ parts_weight (page_limit s) (builds (page_limit s) h) line
     weights_known [] kept = refl
     weights_known (Embedded bytes ∷ line) kept =
         one_more (Embedded bytes) line (ap (λ (l : Limits). div_ceil (length bytes) l.page) between.same_limits) (weights_known line kept)
@@ -284,14 +284,14 @@ module _ (s : Session) (h : History) (stands : ℕ → Bool) (parts : Parts) (to
           (status_known s h stands parts told table between reaches there renderer.0 name line free)
 
       many_known : many_in parts (stands_in parts table renderer name line) line
-          ≡ many_by (stands_at_line s h renderer name line) (plan_for s h line) (piece_total s h + piece_count s.limits.page (own_lengths line))
-          (weight_total s h + parts_weight s.limits.page (builds s.limits.page h) line)
+          ≡ many_by (stands_at_line s h renderer name line) (plan_for s h line) (piece_total s h + piece_count (page_limit s) (own_lengths line))
+          (weight_total s h + parts_weight (page_limit s) (builds (page_limit s) h) line)
       many_known =
           ap (λ (b : Bool). many_by b (plan_in parts line) (parts.pieces + piece_count parts.limits.page (own_lengths line))
           (parts.weight + line_weight_in parts line)) stands_known
           ∙ by (line_status s h renderer.0 name line) refl
         where
-          count : parts.pieces + piece_count parts.limits.page (own_lengths line) ≡ piece_total s h + piece_count s.limits.page (own_lengths line)
+          count : parts.pieces + piece_count parts.limits.page (own_lengths line) ≡ piece_total s h + piece_count (page_limit s) (own_lengths line)
           count =
               ap (λ (n : ℕ). n + piece_count parts.limits.page (own_lengths line)) (between.same_pieces ∙ pieces_counted s h)
               ∙ ap (λ (l : Limits). piece_total s h + piece_count l.page (own_lengths line)) between.same_limits
@@ -299,17 +299,17 @@ module _ (s : Session) (h : History) (stands : ℕ → Bool) (parts : Parts) (to
           by : (status : Option Status) → line_status s h renderer.0 name line ≡ status
               → many_by (is_none status) (plan_in parts line) (parts.pieces + piece_count parts.limits.page (own_lengths line))
               (parts.weight + line_weight_in parts line)
-              ≡ many_by (is_none status) (plan_for s h line) (piece_total s h + piece_count s.limits.page (own_lengths line))
-              (weight_total s h + parts_weight s.limits.page (builds s.limits.page h) line)
+              ≡ many_by (is_none status) (plan_for s h line) (piece_total s h + piece_count (page_limit s) (own_lengths line))
+              (weight_total s h + parts_weight (page_limit s) (builds (page_limit s) h) line)
           by (Some why) at = refl
           by None at =
               ap (λ (plan : Plan). many_by true plan (parts.pieces + piece_count parts.limits.page (own_lengths line))
               (parts.weight + line_weight_in parts line))
               (plan_known s h stands parts told table between reaches line)
               ∙ ap (λ (n : ℕ). many_by true (plan_for s h line) n (parts.weight + line_weight_in parts line)) count
-              ∙ ap (λ (n : ℕ). many_by true (plan_for s h line) (piece_total s h + piece_count s.limits.page (own_lengths line))
+              ∙ ap (λ (n : ℕ). many_by true (plan_for s h line) (piece_total s h + piece_count (page_limit s) (own_lengths line))
               (n + line_weight_in parts line)) between.same_weight
-              ∙ ap (λ (n : ℕ). many_by true (plan_for s h line) (piece_total s h + piece_count s.limits.page (own_lengths line)) (weight_total s h + n))
+              ∙ ap (λ (n : ℕ). many_by true (plan_for s h line) (piece_total s h + piece_count (page_limit s) (own_lengths line)) (weight_total s h + n))
               (weights_known there renderer.0 line (found_sources s h renderer.0 name line at))
 
     pub build_known : (kind : List ℕ) (line : List Part) → build_refusal_in parts table renderer name line ≡ refusal s h (events.Build renderer name kind line)
@@ -328,8 +328,8 @@ module _ (s : Session) (h : History) (stands : ℕ → Bool) (parts : Parts) (to
         behind_it : List (Bool × Refusal)
         behind_it =
             too_many_blobs s h
-            ∷ many_by (stands_at_line s h renderer name line) (plan_for s h line) (piece_total s h + piece_count s.limits.page (own_lengths line))
-            (weight_total s h + parts_weight s.limits.page (builds s.limits.page h) line)
+            ∷ many_by (stands_at_line s h renderer name line) (plan_for s h line) (piece_total s h + piece_count (page_limit s) (own_lengths line))
+            (weight_total s h + parts_weight (page_limit s) (builds (page_limit s) h) line)
 
         rest : List (Bool × Refusal)
         rest = slot_tests_in table (claims line) ++ behind
@@ -354,7 +354,7 @@ module _ (s : Session) (h : History) (stands : ℕ → Bool) (parts : Parts) (to
         line = slice_line parts.book source from to
 
         whole : List Part
-        whole = slice_parts (builds s.limits.page h) source from to
+        whole = slice_parts (builds (page_limit s) h) source from to
 
         rest : List (Bool × Refusal)
         rest = many_blobs_in parts ∷ many_views_in parts (stands_in parts table renderer name line) line ∷ []
@@ -363,7 +363,7 @@ module _ (s : Session) (h : History) (stands : ℕ → Bool) (parts : Parts) (to
         more = too_many_blobs s h ∷ many_views s h (stands_at_line s h renderer name whole) whole ∷ []
 
         held : first_that (no_renderer h renderer ∷ name_used s h name ∷ no_handle h renderer source ∷ []) ≡ None → has_handle h renderer.0 source ≡ true
-        held e = by (not (is_alive h renderer.0)) (is_some (build_in (builds s.limits.page h) name)) (has_handle h renderer.0 source) e
+        held e = by (not (is_alive h renderer.0)) (is_some (build_in (builds (page_limit s) h) name)) (has_handle h renderer.0 source) e
           where
             by : (dead used has : Bool)
                 → first_that ((dead, refusals.NoRenderer renderer) ∷ (used, refusals.NameUsed name) ∷ (not has, refusals.NoHandle renderer source) ∷ []) ≡ None
@@ -373,11 +373,11 @@ module _ (s : Session) (h : History) (stands : ℕ → Bool) (parts : Parts) (to
             by false false false f = absurd (cc f)
             by false false true f = refl
 
-        sizes : has_handle h renderer.0 source ≡ true → size_under parts.book source ≡ size_in (builds s.limits.page h) source
+        sizes : has_handle h renderer.0 source ≡ true → size_under parts.book source ≡ size_in (builds (page_limit s) h) source
         sizes has = by (entry_of parts.book source) refl
           where
             by : (found : Option Entry) → entry_of parts.book source ≡ found
-                → option_map_or (λ (entry : Entry). entry.size) found 0 ≡ size_in (builds s.limits.page h) source
+                → option_map_or (λ (entry : Entry). entry.size) found 0 ≡ size_in (builds (page_limit s) h) source
             by (Some entry) at = size_told s h stands parts told table between source entry at
             by None at =
                 let stands_there = there renderer.0 source

@@ -34,7 +34,7 @@ use Rattle.blob_model.specs.History.{History}
 use Rattle.blob_model.specs.Parts.{claims, embedded, own_bytes, own_lengths, parts_length, sources}
 use Rattle.blob_model.specs.Recorded.{recorded, FileState}
 use Rattle.blob_model.specs.Refusals.{claimed, is_in, slot_refusals}
-use Rattle.blob_model.specs.Session.{Session, Slot}
+use Rattle.blob_model.specs.Session.{Session, Slot, page_limit}
 use Rattle.blob_model.specs.Standing.{is_broken as is_broken_now}
 use Rattle.blob_model.specs.Waits.{waits}
 use Rattle.blob_model.proofs.Lists.{any_same}
@@ -169,16 +169,16 @@ module _ (s : Session) (h : History) (stands : ℕ → Bool) (parts : Parts) (to
         ∙ ap (λ (held : Bool). not held || is_broken_now h b) (holds_known renderer b)
 
     passed_known : (b end : ℕ) → (holds parts renderer b && is_passed parts.book b end)
-        ≡ (has_handle h renderer b && not (is_broken_now h b) && nat_lt (size_in (builds s.limits.page h) b) end)
+        ≡ (has_handle h renderer b && not (is_broken_now h b) && nat_lt (size_in (builds (page_limit s) h) b) end)
     passed_known b end =
         by_hold b (λ held found.
         (held && option_map_or (λ (entry : Entry). not (is_broken entry.status) && nat_lt entry.size end) found false)
-        ≡ (held && not (is_broken_now h b) && nat_lt (size_in (builds s.limits.page h) b) end))
+        ≡ (held && not (is_broken_now h b) && nat_lt (size_in (builds (page_limit s) h) b) end))
         (λ found. refl)
         (λ entry at.
         ap (λ (bit : Bool). not bit && nat_lt entry.size end) (broken_known b entry at)
         ∙ ap (λ (n : ℕ). not (is_broken_now h b) && nat_lt n end) (size_told s h stands parts told table between b entry at))
-        ∙ ap (λ (held : Bool). held && not (is_broken_now h b) && nat_lt (size_in (builds s.limits.page h) b) end) (holds_known renderer b)
+        ∙ ap (λ (held : Bool). held && not (is_broken_now h b) && nat_lt (size_in (builds (page_limit s) h) b) end) (holds_known renderer b)
 
     -- ---- all parts
 
@@ -213,9 +213,9 @@ module _ (s : Session) (h : History) (stands : ℕ → Bool) (parts : Parts) (to
   module _ (reaches : Reaches s h parts.shares parts.rows parts.quota parts.pages) where
     pub input_known : (line : List Part) → input_in parts line ≡ plan_input s h line
     input_known line =
-        let waiting : length parts.quota.waiting ≡ length (waits s.limits.page h) =
+        let waiting : length parts.quota.waiting ≡ length (waits (page_limit s) h) =
         ap (λ (list : List (ℕ × ℕ)). length list) between.contents.waiting
-        ∙ length-map (waits s.limits.page h) (λ (build : Build). (build.name, own_bytes build.parts)) in
+        ∙ length-map (waits (page_limit s) h) (λ (build : Build). (build.name, own_bytes build.parts)) in
         λ i. record {
           embedded = length (embedded line);
           asked = own_bytes line - length (embedded line);
