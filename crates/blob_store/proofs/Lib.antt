@@ -20,3 +20,5 @@ pub mod Leaving
 pub mod Refusing
 pub mod OwnBytes
 pub mod Slots
+pub mod Weighing
+pub mod Refused
