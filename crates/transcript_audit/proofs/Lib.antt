@@ -4,3 +4,7 @@ mod Turned
 mod OwnTests
 mod OwnCount
 mod Judging
+mod GoodCells
+mod Arrivals
+mod CellReads
+mod OwnFronts
