@@ -51,3 +51,4 @@ pub mod UrlRefusals
 pub mod Resolving
 pub mod Openings
 pub mod OpeningRefusals
+pub mod Finishing

@@ -24,6 +24,7 @@ pub mod Roots
 pub mod Apart
 pub mod TableLaws
 pub mod OpeningLaws
+pub mod FinishLaws
 pub mod BuildLaws
 pub mod PartLaws
 pub mod EntryLaws
