@@ -49,12 +49,16 @@ module _ (limits : Limits) (version : Version) (parts : Parts) where
     items = λ slot. tt;
     ranges = λ k. omega arith;
     views = λ number. tt;
-    pages = tt;
+    pages = λ number. tt;
     job = tt;
     order = tt;
+    names = λ number. tt;
     rows = refl;
     awaited = λ number. tt;
     unheld = λ number. tt;
+    pinned = λ slot some. absurd (omega (arith, some));
+    gathers = λ number. tt;
+    limit = refl;
     waits = refl;
     weight = refl;
     light = omega arith;

@@ -6,6 +6,7 @@ use Rattle.std.proofs.lemmas.Bool.{eqb-true, eqb-false}
 use Rattle.blob_entries.specs.Book.{Book, changed, changed_at, entry_at, entry_of}
 use Rattle.blob_entries.specs.Holdings.{held_views, views_in}
 use Rattle.blob_entries.specs.Names.{number_of}
+use Rattle.blob_entries.specs.Statuses.{is_pending}
 use Rattle.blob_entries.specs.declared.entry.Entry.{Entry}
 use Rattle.blob_entries.proofs.Holdings.{in_cons, on_held}
 use Rattle.blob_entries.proofs.Numbers.{name_there}
@@ -48,15 +49,15 @@ still_changed P change keeps entries number other kept =
     (λ apart. subst P (sym (at_other entries number other (option_map change (entry_at entries number)) apart)) kept)
 
 -- bytes come for blobs that stand alone, as before
-pub awaited_changed : (change : Entry → Entry) (entries : Entries) (number other : ℕ) (row : Option Row) → IfSome row (IsAwaited (entry_at entries other))
+pub awaited_changed : (change : Entry → Entry) → ((entry : Entry) → (change entry).status ≡ entry.status) → (entries : Entries) (number other : ℕ) (row : Option Row) → IfSome row (IsAwaited (entry_at entries other))
     → IfSome row (IsAwaited (entry_at (set entries number (option_map change (entry_at entries number))) other))
-awaited_changed change entries number other row is =
+awaited_changed change same entries number other row is =
     still_changed (λ (held : Option Entry). IfSome row (IsAwaited held)) change (λ held. by held row) entries number other is
   where
     by : (held : Option Entry) (row : Option Row) → IfSome row (IsAwaited held) → IfSome row (IsAwaited (option_map change held))
     by None row is = is
     by (Some entry) None is = tt
-    by (Some entry) (Some row) is = tt
+    by (Some entry) (Some row) is = λ ended. is (sym (ap is_pending (same entry)) ∙ ended)
 
 -- views that a change keeps are as many on each slot
 pub views_changed : (change : Entry → Entry) → ((entry : Entry) → held_views (change entry) ≡ held_views entry) → (entries : Entries) (number slot : ℕ)

@@ -12,6 +12,10 @@ pub mod Heard
 pub mod HeldBy
 pub mod Few
 pub mod Beside
+pub mod ItemsLeft
+pub mod Settling
+pub mod PiecesGoing
+pub mod Unpinning
 pub mod Rerooting
 pub mod HeardTables
 pub mod Rerooted

@@ -7,7 +7,7 @@ use Rattle.blob_entries.specs.Book.{Book, entry_at, entry_of}
 use Rattle.blob_entries.specs.Changes.{with_roots}
 use Rattle.blob_entries.specs.Holdings.{held_views, views_in}
 use Rattle.blob_entries.specs.Names.{number_of}
-use Rattle.blob_entries.specs.Statuses.{is_broken}
+use Rattle.blob_entries.specs.Statuses.{is_broken, is_pending}
 use Rattle.blob_entries.specs.Weights.{cut_weight}
 use Rattle.blob_entries.specs.declared.entry.Entry.{Entry}
 use Rattle.blob_entries.proofs.Holdings.{in_cons, on_held}
@@ -58,7 +58,9 @@ module _ (P : Entry → Type 0) (keeps : (entry : Entry) (roots : ℕ) → P ent
 awaited_same : (new old : Option Entry) (row : Row) → bare new ≡ bare old → IsAwaited old row → IsAwaited new row
 awaited_same None None row same is = is
 awaited_same None (Some other) row same is = absurd (cc same)
-awaited_same (Some one) old row same is = tt
+awaited_same (Some one) None row same is = absurd (cc same)
+awaited_same (Some one) (Some other) row same is =
+    let equal : with_roots 0 one ≡ with_roots 0 other = cc in λ ended. is (sym (ap (λ (entry : Entry). is_pending entry.status) equal) ∙ ended)
 
 if_awaited : (new old : Option Entry) (row : Option Row) → bare new ≡ bare old → IfSome row (IsAwaited old) → IfSome row (IsAwaited new)
 if_awaited new old None same is = tt
@@ -114,10 +116,15 @@ whole_same parts book renderers urls readers whole same living roots few are ope
   pages = whole.pages;
   job = whole.job;
   order = whole.order;
+  names = λ number. subst (λ (names : List ℕ). IfSome (slice_get names number) (λ (name : ℕ). number_of name names ≡ Some number)) (sym same.names)
+      (whole.names number);
   rows = whole.rows ∙ ap (λ (names : List ℕ). length names) (sym same.names);
   awaited = λ number. if_awaited (entry_at book.entries number) (entry_at parts.registry.entries number) (slice_get parts.rows number)
       (same_at book.entries parts.registry.entries same.entries number) (whole.awaited number);
   unheld = whole.unheld;
+  pinned = whole.pinned;
+  gathers = whole.gathers;
+  limit = whole.limit;
   waits = whole.waits ∙ ap (λ (names : List ℕ). waiting names parts.rows) (sym same.names);
   weight = whole.weight;
   light = whole.light;

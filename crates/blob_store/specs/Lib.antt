@@ -8,3 +8,4 @@ pub mod Says
 pub mod New
 pub mod Begins
 pub mod Gone
+pub mod Dropping

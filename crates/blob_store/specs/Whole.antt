@@ -5,20 +5,21 @@ use Rattle.blob_words.specs.declared.bounds.TheConstants.{MOST_READERS, MOST_WEI
 use Rattle.item_shares.specs.declared.item.Item.{Item}
 use Rattle.item_shares.specs.declared.item.Item.TheVariants.{Memory, Paged, Reserved, File, Range}
 use Rattle.item_shares.specs.declared.shares.Share.{Share}
-use Rattle.item_shares.specs.Shares.{item_at}
+use Rattle.item_shares.specs.Shares.{item_at, HoldsPiece}
 use Rattle.item_shares.specs.Weights.{weights}
 use Rattle.blob_items.specs.declared.view.View.{View}
 use Rattle.blob_entries.specs.Book.{Book, entry_at, entry_of}
 use Rattle.blob_entries.specs.Counts.{count_at}
 use Rattle.blob_entries.specs.Holdings.{held_views, views_in}
-use Rattle.blob_entries.specs.Statuses.{is_broken}
+use Rattle.blob_entries.specs.Names.{number_of}
+use Rattle.blob_entries.specs.Statuses.{is_broken, is_pending}
 use Rattle.blob_entries.specs.Weights.{cut_weight}
 use Rattle.blob_entries.specs.declared.entry.Entry.{Entry}
 use Rattle.page_files.specs.declared.held.Held.{Held}
 use Rattle.page_files.specs.declared.page.Page.{Page}
-use Rattle.page_files.specs.Files.{Files, left_of}
+use Rattle.page_files.specs.Files.{Files, left_of, page_no}
 use Rattle.quota_queue.specs.Queue.{Queue}
-use Rattle.page_files.specs.Pages.{pieces_at, pieces_of}
+use Rattle.page_files.specs.Pages.{pieces_at}
 use Rattle.renderer_table.specs.Counted.{origin_at}
 use Rattle.renderer_table.specs.Table.{was_spawned}
 use Rattle.store_laws.specs.Items.{holds_piece, item_length}
@@ -27,7 +28,8 @@ use Rattle.store_laws.specs.Weights.{memory_weight, piece_weight, range_weight, 
 use Rattle.blob_store.specs.declared.parts.Parts.{Parts}
 use Rattle.blob_store.specs.declared.readers.OpenReader.{OpenReader}
 use Rattle.blob_store.specs.declared.row.Row.{Row}
-use Rattle.blob_store.specs.declared.row.Sending.TheVariants.{Settled}
+use Rattle.blob_store.specs.declared.row.Sending.{Sending}
+use Rattle.blob_store.specs.declared.row.Sending.TheVariants.{Settled, Waiting, Gathering, Writing}
 use Rattle.blob_store.specs.Readers.{reader_at}
 use Rattle.blob_store.specs.Roots.{roots_at, roots_in}
 use Rattle.blob_store.specs.Rows.{bytes_gathered, gathered_pieces, pieces_gathered, pins, waiting}
@@ -56,6 +58,10 @@ IsListed pages slot (Range handle off len) = off + len ≤ 2 ^ 64 - 1
 pub record IsHeld (homes : List ℕ) (pages : List Page) (slot : ℕ) (item : Item) : Type 0 where
   pub home : IsHome homes slot item
   pub listed : IsListed pages slot item
+
+-- a piece that a page file lists is in the slot that is named with it, as one in this page file
+abbrev pub IsPagedAs : List (Option Share) → ℕ → Held → Type 0
+IsPagedAs shares page held = item_at shares held.slot ≡ Some (Paged held.piece (page_no page) held.off held.len)
 
 -- a piece in the order of use is in memory, with this length
 abbrev pub IsMemory : ℕ × ℕ → Item → Type 0
@@ -109,10 +115,20 @@ abbrev pub AreUnheld : List (Option Share) → Row → Type 0
 AreUnheld shares row =
     (number : ℕ) → row.first ≤ number → number < row.first + gathered_pieces row.sending → holds_piece shares number ≡ false
 
--- bytes come for blobs that stand alone
+-- bytes come for blobs alone that stand and are unfinished
 abbrev pub IsAwaited : Option Entry → Row → Type 0
 IsAwaited None row = row.sending ≡ Settled
-IsAwaited (Some entry) row = Unit {0}
+IsAwaited (Some entry) row = is_pending entry.status ≡ false → row.sending ≡ Settled
+
+-- gathered segments are those of the blob's own parts, each cut into pieces by the page size
+abbrev pub AreOfParts : ℕ → List ℕ → Sending → Type 0
+AreOfParts page lengths Settled = Unit {0}
+AreOfParts page lengths Waiting = Unit {0}
+AreOfParts page lengths (Gathering segments) = (segments.parts ≡ lengths) × (segments.page ≡ page)
+AreOfParts page lengths (Writing slots came) = Unit {0}
+
+abbrev pub GathersOwn : ℕ → Row → Type 0
+GathersOwn page row = AreOfParts page row.lengths row.sending
 
 -- ---- all parts
 
@@ -125,13 +141,17 @@ pub record Whole (parts : Parts) : Type 0 where
   pub ranges : (k : ℕ) → weights (range_weight k) parts.shares ≤ 1
   pub views : (number : ℕ) → IfSome (entry_at parts.registry.entries number) (Views parts.shares)
   -- page files, jobs and the order of use
-  pub pages : AllByRecursion (λ (page : Page). AllByRecursion (IsSlotOf parts.shares) (pieces_of page)) parts.pages.pages
+  pub pages : (number : ℕ) → AllByRecursion (IsPagedAs parts.shares number) (pieces_at parts.pages.pages number)
   pub job : AllByRecursion (IsSlotOf parts.shares) (left_of parts.pages.job)
   pub order : AllByRecursion (IsInMemory parts.shares parts.homes) parts.recent
-  -- a row for each blob
+  -- each blob has its own name, and a row
+  pub names : (number : ℕ) → IfSome (slice_get parts.registry.names number) (λ (name : ℕ). number_of name parts.registry.names ≡ Some number)
   pub rows : length parts.rows ≡ length parts.registry.names
   pub awaited : (number : ℕ) → IfSome (slice_get parts.rows number) (IsAwaited (entry_at parts.registry.entries number))
   pub unheld : (number : ℕ) → IfSome (slice_get parts.rows number) (AreUnheld parts.shares)
+  pub pinned : (slot : ℕ) → 0 < pins slot parts.rows → IsSomeAnd (item_at parts.shares slot) HoldsPiece
+  pub gathers : (number : ℕ) → IfSome (slice_get parts.rows number) (GathersOwn parts.limits.page)
+  pub limit : parts.quota.limit ≡ parts.limits.memory
   pub waits : parts.quota.waiting ≡ waiting parts.registry.names parts.rows
   pub weight : parts.weight ≡ sum (row_weights parts.rows)
   pub light : parts.weight ≤ MOST_WEIGHT
