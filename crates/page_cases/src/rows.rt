@@ -60,7 +60,7 @@ pub fn show(rt: &HostRuntime, line: &str) -> anyhow::Result<()> {
         "memory" => over_memory(rt, line),
         "folder" => over_folder(rt, line),
         "volume" => over_volume(rt, line),
-        "reserve" => reserves::show(rt, number(line, 2)),
+        "reserve" => reserves::show_limit(rt, line, number(line, 2), number(line, 3)),
         _ => Ok(()),
     }
 }
