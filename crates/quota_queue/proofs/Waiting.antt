@@ -22,7 +22,8 @@ pub none_waits : (name : ℕ) (waiting : List (ℕ × ℕ)) → length waiting �
     × (without name waiting ≡ waiting)
 none_waits name [] past = (refl, refl)
 none_waits name (blob ∷ waiting) past =
-    (elim (nat_eq name blob.0) as (λ y. nat_eq name blob.0 ≡ y → (is_waiting name (blob ∷ waiting) ≡ false) × (without name (blob ∷ waiting) ≡ blob ∷ waiting)) [
+    (elim (nat_eq name blob.0) as (λ y. nat_eq name blob.0 ≡ y → (is_waiting name (blob ∷ waiting) ≡ false)
+    × (without name (blob ∷ waiting) ≡ blob ∷ waiting)) [
       | true ↦ λ t. let h = rw t at past in absurd (omega (arith, h))
       | false ↦ λ t. let h = rw t at past in
           let on = none_waits name waiting (omega (arith, h)) in
