@@ -28,8 +28,10 @@ use Rattle.blob_store.specs.declared.readers.OpenReader.{OpenReader}
 use Rattle.blob_store.specs.Readers.{is_own, reader_at, ClosesFrom}
 use Rattle.blob_store.specs.Roots.{handles_of, roots_at, roots_in}
 use Rattle.blob_store.specs.Seen.{reader_of}
+use Rattle.blob_store.specs.Holders.{IsUnlinked, IsUnread}
 use Rattle.blob_store.specs.Whole.{Whole}
 use Rattle.blob_store.proofs.HeardTables.{goes_seen, open_said, open_seen}
+use Rattle.blob_store.proofs.Owning.{owned_dead, owned_same}
 use Rattle.blob_store.proofs.Rerooted.{whole_same}
 use Rattle.blob_store.proofs.Rerooting.{born_still, reader_roots, roots_fewer, stands_rooted, url_roots, whole_closed, whole_unnamed}
 use Rattle.blob_store.proofs.Rooting.{counts_now, handles_moved, living_now, on_held, within_handles}
@@ -157,7 +159,7 @@ pub whole_unlinked : (parts : Parts) (owner blob : ℕ) (urls : Urls) → Whole 
     → GoesFrom owner blob parts.urls urls → Whole (record parts { registry = changed parts.registry blob held_less; urls = urls })
 whole_unlinked parts owner blob urls whole told is goes =
     subst (λ (name : ℕ). Whole (record parts { registry = changed parts.registry name held_less; urls = urls })) goes.leads
-    (whole_unnamed parts goes.text goes.url urls whole goes.there (first_goes owner blob parts.urls urls told is goes))
+    (whole_unnamed parts goes.text goes.url urls whole goes.there (first_goes owner blob parts.urls urls told is goes) goes.goes)
 
 -- ---- handles
 
@@ -185,7 +187,7 @@ module _ (id name count : ℕ) (old new : Table) (alive : IsSome (living_of id o
 
 -- so many handles give the blob as many roots
 pub handles_rooted : (parts : Parts) (id name count : ℕ) → Whole parts → count_of id name parts.renderers ≡ count → count ≤ roots_at parts.registry name
-handles_rooted parts id name count whole counted = omega (arith, counted, within_handles id name parts.renderers, whole.roots name)
+handles_rooted parts id name count whole counted = omega (arith, counted, within_handles id name parts.renderers, whole.holders.roots name)
 
 -- counts of others stay
 pub others_stay : (id blob : ℕ) (first old new : Table) → ChangesCount (λ (n : ℕ). 0) id blob old new
@@ -202,9 +204,10 @@ pub whole_unheld : (parts : Parts) (book : Book) (id name count : ℕ) (counts :
     → ChangesCount (λ (n : ℕ). 0) id name parts.renderers renderers → Whole (record parts { registry = book; renderers = renderers })
 whole_unheld parts book id name count counts renderers whole same roots alive is counted changes =
     let one = some_living (living_of id parts.renderers) alive in
-    whole_same parts book renderers parts.urls parts.readers whole same (born_still (λ (n : ℕ). 0) id name parts.renderers renderers whole.living changes)
+    whole_same parts book renderers parts.urls parts.readers whole same (born_still (λ (n : ℕ). 0) id name parts.renderers renderers whole.holders.living changes)
     (λ other. by other (name == other) refl (roots other) (left other) (handles_moved id parts.renderers renderers one.0 one.1 counts is other))
-    (λ other. few other (name == other) (roots other)) whole.readers whole.opened
+    (λ other. few other (name == other) (roots other)) whole.holders.readers whole.holders.opened
+    (owned_same parts.renderers renderers parts.urls parts.readers changes.origins whole.holders.owned)
   where
     left : (other : ℕ) → count_of id other renderers ≡ cond (name == other) 0 (count_of id other parts.renderers)
     left other =
@@ -216,21 +219,23 @@ whole_unheld parts book id name count counts renderers whole same roots alive is
         → roots_at book other ≡ roots_in renderers parts.urls parts.readers other
     by other true at root none moved =
         let had = subst (λ (n : ℕ). count_of id n parts.renderers ≡ count) (eqb-true name other at) counted in
-        omega (arith, root, none, moved, had, whole.roots other, within_handles id other parts.renderers)
-    by other false at root still moved = omega (arith, root, still, moved, whole.roots other)
+        omega (arith, root, none, moved, had, whole.holders.roots other, within_handles id other parts.renderers)
+    by other false at root still moved = omega (arith, root, still, moved, whole.holders.roots other)
 
     few : (other : ℕ) (b : Bool) → roots_at book other ≡ cond b (roots_at parts.registry other - count) (roots_at parts.registry other)
         → roots_at book other ≤ parts.lines
-    few other true root = omega (arith, root, whole.few other)
-    few other false root = omega (arith, root, whole.few other)
+    few other true root = omega (arith, root, whole.holders.few other)
+    few other false root = omega (arith, root, whole.holders.few other)
 
 -- a renderer without handles goes
 pub whole_dead : (parts : Parts) (id : ℕ) (renderers : Table) → Whole parts
     → renderers ≡ record parts.renderers { living = remove_entry (is_at (nat_cmp id)) parts.renderers.living } → Dies id parts.renderers renderers
+    → IsUnread id parts.readers → IsUnlinked id parts.urls
     → Whole (record parts { renderers = renderers })
-whole_dead parts id renderers whole is dies =
+whole_dead parts id renderers whole is dies unread unmade =
     whole_same parts parts.registry renderers parts.urls parts.readers whole (record { names = refl; entries = refl }) living
-    (λ name. let same = handles name in omega (arith, same, whole.roots name)) whole.few whole.readers whole.opened
+    (λ name. let same = handles name in omega (arith, same, whole.holders.roots name)) whole.holders.few whole.holders.readers whole.holders.opened
+    (owned_dead id parts.renderers renderers parts.urls parts.readers dies unread unmade whole.holders.owned)
   where
     handles : (name : ℕ) → handles_of name renderers ≡ handles_of name parts.renderers
     handles name =
@@ -244,4 +249,4 @@ whole_dead parts id renderers whole is dies =
       where
         by : (b : Bool) → cond b None (origin_at number parts.renderers) ≡ None
         by true = refl
-        by false = whole.living number (ap (λ (list : List ℕ). list_any (is_at (nat_cmp number)) list) (sym dies.spawned) ∙ fresh)
+        by false = whole.holders.living number (ap (λ (list : List ℕ). list_any (is_at (nat_cmp number)) list) (sym dies.spawned) ∙ fresh)

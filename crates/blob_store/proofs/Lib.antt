@@ -3,6 +3,7 @@ pub mod OwnedReaders
 pub mod Opening
 pub mod Rooting
 pub mod Changed
+pub mod Owning
 pub mod Faults
 pub mod Holding
 pub mod Spawning

@@ -3,6 +3,9 @@ pub mod Owners
 pub mod Readers
 pub mod Rows
 pub mod Roots
+pub mod Stored
+pub mod Blobs
+pub mod Holders
 pub mod Whole
 pub mod Seen
 pub mod Says

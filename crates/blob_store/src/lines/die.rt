@@ -3,6 +3,7 @@ ghost use Rattle.std.specs.Prelude.{ℕ, ◌≡◌, ◌-◌, ◌≤◌, ◌==◌
 ghost use Rattle.renderer_table.specs.Table.{living_of};
 ghost use Rattle.store_laws.specs.Roots.{AreRerooted};
 ghost use Rattle.store_laws.specs.TableLaws.{Departs, ReadersLeave, UrlsLeave};
+ghost use Rattle.blob_store.specs.Holders.{IsUnlinked, IsUnread};
 ghost use Rattle.blob_store.specs.Roots.{roots_at};
 ghost use Rattle.blob_store.specs.Seen.{reader_of};
 
@@ -39,6 +40,7 @@ impl Parts {
         ensures same { AreRerooted self.old.registry self.new.registry }
         ensures readers { ReadersLeave renderer.0 (map reader_of self.old.readers)
             (map reader_of self.new.readers) }
+        ensures unread { IsUnread renderer.0 self.new.readers }
         ensures rest { self.new ≡ record self.old {
           registry = self.new.registry;
           readers = self.new.readers;
@@ -71,6 +73,8 @@ impl Parts {
     fn drop_handles(&mut self, renderer: RendererId)
         requires whole { IsWhole self.old }
         requires alive { IsSome (living_of renderer.0 self.old.renderers) }
+        requires unread { IsUnread renderer.0 self.old.readers }
+        requires unlinked { IsUnlinked renderer.0 self.old.urls }
         ensures whole { IsWhole self.new }
         ensures same { AreRerooted self.old.registry self.new.registry }
         ensures departs { Departs renderer.0 self.old.renderers self.new.renderers }

@@ -10,6 +10,8 @@ use Rattle.blob_model.specs.History.{history_from, start}
 use Rattle.blob_model.specs.Live.{is_live}
 use Rattle.blob_model.specs.Session.{page_limit}
 use Rattle.store_laws.proofs.TableRefusals.{die_known}
+use Rattle.blob_store.specs.declared.readers.OpenReader.{OpenReader}
+use Rattle.blob_store.specs.Holders.{IsUnread}
 use Rattle.blob_store.specs.Says.{scene, IsHeard, Says}
 use Rattle.blob_store.specs.Seen.{parts_of}
 use Rattle.blob_store.proofs.Heard.{heard_refused}
@@ -24,6 +26,14 @@ returns-in-Some-clause-says c told table s groups legal still stands =
     (die_known s (history_from start groups) (is_live (page_limit s) (history_from start groups)) (parts_of c.args.self.now) told table stands.between
     c.args.renderer
     ∙ sym c.in-Some.ensures)
+
+pub drop_handles-requires-clause-unread : goal.drop_handles-requires-clause-unread
+drop_handles-requires-clause-unread c =
+    subst (λ (readers : List (ℕ × OpenReader)). IsUnread c.args.renderer.0 readers) (sym (ap (λ (one : Parts). one.readers) c.drop_urls.ensures.rest))
+    c.close_readers.ensures.unread
+
+pub drop_handles-requires-clause-unlinked : goal.drop_handles-requires-clause-unlinked
+drop_handles-requires-clause-unlinked c = c.drop_urls.ensures.urls.none_left
 
 pub returns-clause-says : goal.returns-clause-says
 unfolding Says

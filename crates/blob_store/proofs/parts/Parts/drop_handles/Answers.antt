@@ -1,7 +1,10 @@
 -- All handles on one blob after the other go, and then the renderer.
-use Rattle.std.proofs.Common.{drop, ap, ◌∙◌}
+use Rattle.std.proofs.Common.{ℕ, List, drop, ap, sym, subst, ◌∙◌}
 use Rattle.renderer_table.specs.Table.{counts_of}
 use Rattle.blob_store.specs.declared.parts.Parts.{Parts}
+use Rattle.url_store.specs.declared.url.Url.{Url}
+use Rattle.blob_store.specs.declared.readers.OpenReader.{OpenReader}
+use Rattle.blob_store.specs.Holders.{IsUnlinked, IsUnread}
 use Rattle.blob_store.specs.Whole.{IsWhole}
 use Rattle.blob_store.proofs.Leaving.{fewer_counts, handles_rooted, others_stay, rerooted_more, still_alive, whole_dead, whole_unheld}
 use Rattle.blob_store.proofs.parts.Parts.drop_handles.Goals as goal
@@ -37,3 +40,7 @@ pub returns-clause-whole : goal.returns-clause-whole
 unfolding IsWhole
 returns-clause-whole c =
     whole_dead c.loop-taken.self c.args.renderer.0 c.die.new.self c.loop-taken.invariant.whole c.in_default.ensures.none c.in_default.ensures.dead
+    (subst (λ (readers : List (ℕ × OpenReader)). IsUnread c.args.renderer.0 readers) (sym (ap (λ (one : Parts). one.readers) c.loop-taken.invariant.rest))
+    c.requires.unread)
+    (subst (λ (urls : List (List ℕ × Url)). IsUnlinked c.args.renderer.0 urls) (sym (ap (λ (one : Parts). one.urls) c.loop-taken.invariant.rest))
+    c.requires.unlinked)
