@@ -1,5 +1,5 @@
 -- What a sweep leaves of the contents stands behind the drops.
-use Rattle.std.proofs.Common.{◌≡◌, ℕ, Bool, true, List, map, reverse, refl, ap, subst, sym, ◌∙◌, Option}
+use Rattle.std.proofs.Common.{◌≡◌, ℕ, Bool, true, List, map, reverse, refl, subst, sym, ◌∙◌, Option}
 use Rattle.std.specs.Prelude.{filter, fold}
 use Rattle.answer_text.specs.declared.answer.Answer.TheVariants as answers
 use Rattle.item_shares.specs.declared.item.Item.{Item}
