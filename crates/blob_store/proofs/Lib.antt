@@ -13,7 +13,6 @@ pub mod Heard
 pub mod HeldBy
 pub mod Few
 pub mod Beside
-pub mod Freeing
 pub mod Rerooting
 pub mod HeardTables
 pub mod Rerooted

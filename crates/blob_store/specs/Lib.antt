@@ -1,4 +1,3 @@
-pub mod Freed
 pub mod Owners
 pub mod Readers
 pub mod Rows

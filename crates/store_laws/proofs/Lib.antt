@@ -29,6 +29,7 @@ pub mod UrlOwners
 pub mod Counting
 pub mod Leaving
 pub mod Letting
+pub mod Releasing
 pub mod OrderLeft
 pub mod Queueing
 pub mod SweptStand
