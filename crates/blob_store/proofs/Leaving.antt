@@ -5,8 +5,9 @@ use Rattle.std.specs.Option.{option_map, option_map_or}
 use Rattle.std.specs.List.{list_any}
 use Rattle.std.specs.Ordering.{nat_cmp}
 use Rattle.std.specs.BTreeMap.{is_at}
-use Rattle.std.specs.Map.{remove_entry, values_of}
+use Rattle.std.specs.Map.{lookup, remove_entry, set_value, values_of}
 use Rattle.std.proofs.lemmas.Bool.{eq-eqb, eqb-true}
+use Rattle.std.proofs.lemmas.Map.{length-set_value}
 use Rattle.std.proofs.lemmas.Map.Entries.{sum_by-remove_entry}
 use Rattle.blob_entries.specs.Book.{Book, changed, entry_of}
 use Rattle.blob_entries.specs.Changes.{held_less}
@@ -250,3 +251,31 @@ whole_dead parts id renderers whole is dies unread unmade =
         by : (b : Bool) → cond b None (origin_at number parts.renderers) ≡ None
         by true = refl
         by false = whole.holders.living number (ap (λ (list : List ℕ). list_any (is_at (nat_cmp number)) list) (sym dies.spawned) ∙ fresh)
+
+-- ---- how many live
+
+-- other counts leave as many
+pub as_many : (id : ℕ) (counts : List (ℕ × ℕ)) (old new : Table) → new ≡ with_counts id counts old → length new.living ≡ length old.living
+as_many id counts old new is = ap (λ (table : Table). length table.living) is ∙ by (living_of id old)
+  where
+    by : (held : Option Living)
+        → length (option_map_or (λ (one : Living). set_value (is_at (nat_cmp id)) old.living (record one { counts = counts })) held old.living)
+        ≡ length old.living
+    by None = refl
+    by (Some one) = length-set_value (is_at (nat_cmp id)) old.living (record one { counts = counts })
+
+-- and one that dies one fewer
+pub one_fewer_lives : (id : ℕ) (old new : Table) → IsSome (living_of id old)
+    → new ≡ record old { living = remove_entry (is_at (nat_cmp id)) old.living } → length new.living < length old.living
+one_fewer_lives id old new alive is =
+    subst (λ (table : Table). length table.living < length old.living) (sym is) (removed old.living alive)
+  where
+    removed : (living : List (ℕ × Living)) → IsSome (lookup (is_at (nat_cmp id)) living) → length (remove_entry (is_at (nat_cmp id)) living) < length living
+    removed [] is = absurd (cc is)
+    removed (one ∷ living) is = by (is_at (nat_cmp id) one.0) is (removed living)
+      where
+        by : (b : Bool) → IsSome (cond b (Some one.1) (lookup (is_at (nat_cmp id)) living))
+            → (IsSome (lookup (is_at (nat_cmp id)) living) → length (remove_entry (is_at (nat_cmp id)) living) < length living)
+            → length (cond b living (one ∷ remove_entry (is_at (nat_cmp id)) living)) < length (one ∷ living)
+        by true is rest = omega arith
+        by false is rest = let less = rest is in omega (arith, less)

@@ -1,18 +1,21 @@
 -- Who owns a reader or a URL is alive, as readers and URLs come and go, and renderers.
-use Rattle.std.proofs.Common.{◌≡◌, ℕ, ◌==◌, Bool, true, false, cond, List, Option, Some, None, refl, sym, ap, subst, ◌∙◌}
-use Rattle.std.specs.Prelude.{is_none, nat_eq, option_and_then, if◌then◌else◌, IfSome, IsSome}
-use Rattle.std.specs.Option.{option_map}
+use Rattle.std.proofs.Common.{◌≡◌, ℕ, ◌==◌, Bool, true, false, cond, List, [], ◌∷◌, Option, Some, None, refl, sym, ap, subst, ◌∙◌}
+use Rattle.std.specs.Prelude.{is_none, is_some, nat_eq, option_and_then, if◌then◌else◌, IfSome, IsSome}
+use Rattle.std.specs.Cmp.{unsigned_tied}
+use Rattle.std.specs.Option.{option_map, option_map_or}
 use Rattle.std.specs.Str.{bytes_eq}
 use Rattle.std.proofs.lemmas.Bool.{eq-eqb, eqb-true}
 use Rattle.blob_words.specs.declared.number.RendererId.{RendererId}
 use Rattle.answer_text.specs.declared.refusal.Refusal.TheVariants as refusals
 use Rattle.renderer_table.specs.Counted.{origin_at, Dies, Spawns}
+use Rattle.renderer_table.specs.Counts.{count_on}
 use Rattle.renderer_table.specs.Table.{Table, count_of, living_of}
 use Rattle.renderer_table.specs.declared.living.Living.{Living}
 use Rattle.url_store.specs.Changes.{Comes, Goes}
 use Rattle.url_store.specs.Urls.{url_at}
 use Rattle.url_store.specs.declared.url.Url.{Url}
 use Rattle.store_laws.specs.LineLaws.{handle_refusal}
+use Rattle.store_laws.proofs.Tables.{same_bytes}
 use Rattle.blob_store.specs.declared.readers.OpenReader.{OpenReader}
 use Rattle.blob_store.specs.Holders.{IsMade, IsRead, IsUnlinked, IsUnread, Owned}
 use Rattle.blob_store.specs.Readers.{is_own, reader_at, Closes, Opens}
@@ -135,3 +138,30 @@ handle_owner renderer name table due = living_origin renderer.0 table (by (livin
         → (if is_none held then Some (refusals.NoRenderer renderer) else if n == 0 then Some (refusals.NoHandle renderer name) else None) ≡ None → IsSome held
     by None n e = absurd (cc e)
     by (Some one) n e = refl
+
+-- ---- where nobody is alive
+
+none_alive : (table : Table) (owner : ℕ) → ((number : ℕ) → origin_at number table ≡ None) → IsSome (origin_at owner table) → ⊥
+none_alive table owner none is = absurd (cc (sym (ap (λ (held : Option (List ℕ)). is_some held) (none owner)) ∙ is))
+
+-- there is no reader
+pub none_read : (table : Table) (readers : Open) → ((number : ℕ) → origin_at number table ≡ None)
+    → ((number : ℕ) → IfSome (reader_at number readers) (IsRead table)) → readers ≡ []
+none_read table [] none each = refl
+none_read table (one ∷ readers) none each =
+    absurd (none_alive table one.1.owner.0 none
+    (subst (λ (b : Bool). IfSome (cond b (Some one.1) (reader_at one.0 readers)) (IsRead table)) (unsigned_tied one.0 one.0 ∙ eq-eqb one.0 one.0 refl)
+    (each one.0)))
+
+-- and no URL
+pub none_made : (table : Table) (urls : Urls) → ((number : ℕ) → origin_at number table ≡ None)
+    → ((text : List ℕ) → IfSome (url_at text urls) (IsMade table)) → urls ≡ []
+none_made table [] none each = refl
+none_made table (one ∷ urls) none each =
+    absurd (none_alive table one.1.owner.0 none
+    (subst (λ (b : Bool). IfSome (cond b (Some one.1) (url_at one.0 urls)) (IsMade table)) (same_bytes one.0) (each one.0)))
+
+-- and no handle
+pub none_counted : (table : Table) → ((number : ℕ) → living_of number table ≡ None) → (id name : ℕ) → count_of id name table ≡ 0
+none_counted table none id name =
+    ap (λ (held : Option Living). count_on name (option_map_or (λ (one : Living). one.counts) held [])) (none id)

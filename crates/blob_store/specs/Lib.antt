@@ -12,3 +12,4 @@ pub mod New
 pub mod Begins
 pub mod Gone
 pub mod Openings
+pub mod Departing

@@ -38,6 +38,7 @@ pub mod Rerooted
 pub mod Apart
 pub mod Tables
 pub mod Dying
+pub mod Finishing
 pub mod TableLines
 pub mod ApartHistories
 pub mod TableRefusals
