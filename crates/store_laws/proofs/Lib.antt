@@ -33,6 +33,7 @@ pub mod Releasing
 pub mod OrderLeft
 pub mod Queueing
 pub mod SweptStand
+pub mod Dropped
 pub mod Alike
 pub mod Rerooted
 pub mod Apart

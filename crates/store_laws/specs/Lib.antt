@@ -21,6 +21,7 @@ pub mod SweepLaws
 pub mod LetGo
 pub mod Releasing
 pub mod Swept
+pub mod DropLaws
 pub mod Roots
 pub mod Apart
 pub mod TableLaws

@@ -6,6 +6,7 @@ ghost use Rattle.store_laws.specs.ReachLaws.{ChargesAreTold, HeldIsReached, Sett
 ghost use Rattle.store_laws.specs.ReachLaws.{SlotsAreReached};
 ghost use Rattle.store_laws.specs.CellLaws.{DenotedLaws};
 ghost use Rattle.store_laws.specs.CountLaws.{TellsHowMany};
+ghost use Rattle.store_laws.specs.DropLaws.{DropsStand};
 ghost use Rattle.store_laws.specs.EntryLaws.{NewEntries, UnbuiltUnended};
 ghost use Rattle.store_laws.specs.GroupLaws.{GroupLegal, LateListsKeepLives, OwnLives};
 ghost use Rattle.store_laws.specs.LetGo.{ItemsLetGo, OrderLetGo, PagesLetGo, QueueLetGo};
@@ -141,6 +142,12 @@ pub fn queue_let_go()
 /// the drops, for the live blobs.
 pub fn swept_stands()
     ensures { SweptStands }
+{}
+
+/// The names that a sweep drops are the drops owed, and behind them what is left of the parts and of
+/// the data handles stands, with the live blobs and no others.
+pub fn drops_stand()
+    ensures { DropsStand }
 {}
 
 /// Entries, items and charges stand for the history with a new blob, where its entry, its row and
