@@ -56,3 +56,8 @@ pub mod Deciding
 pub mod Decided
 pub mod SlotTests
 pub mod BuildRefusals
+pub mod Made
+pub mod PassEntries
+pub mod PassKeeps
+pub mod PassRows
+pub mod PassStand

@@ -11,6 +11,7 @@ ghost use Rattle.store_laws.specs.GroupLaws.{GroupLegal, LateListsKeepLives, Own
 ghost use Rattle.store_laws.specs.LetGo.{ItemsLetGo, OrderLetGo, PagesLetGo, QueueLetGo};
 ghost use Rattle.store_laws.specs.LineLaws.{LinesStand, NewStands, NoneIsMarked};
 ghost use Rattle.store_laws.specs.SweepLaws.{SweepLeavesLive};
+ghost use Rattle.store_laws.specs.Passing.{EntriesPass};
 ghost use Rattle.store_laws.specs.Swept.{SweptStands};
 ghost use Rattle.store_laws.specs.TellLaws.{TellsCells};
 
@@ -179,4 +180,10 @@ pub fn new_entries()
 /// says of its cell.
 pub fn tells_cells()
     ensures { TellsCells }
+{}
+
+/// What a pass makes of the entries stands behind the endings, with the rows of those that ended
+/// settled.
+pub fn entries_pass()
+    ensures { EntriesPass }
 {}
