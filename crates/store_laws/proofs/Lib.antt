@@ -61,3 +61,7 @@ pub mod PassEntries
 pub mod PassKeeps
 pub mod PassRows
 pub mod PassStand
+pub mod PassQueue
+pub mod PassOrder
+pub mod PassUses
+pub mod PassContents

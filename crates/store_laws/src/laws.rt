@@ -11,7 +11,7 @@ ghost use Rattle.store_laws.specs.GroupLaws.{GroupLegal, LateListsKeepLives, Own
 ghost use Rattle.store_laws.specs.LetGo.{ItemsLetGo, OrderLetGo, PagesLetGo, QueueLetGo};
 ghost use Rattle.store_laws.specs.LineLaws.{LinesStand, NewStands, NoneIsMarked};
 ghost use Rattle.store_laws.specs.SweepLaws.{SweepLeavesLive};
-ghost use Rattle.store_laws.specs.Passing.{EntriesPass};
+ghost use Rattle.store_laws.specs.Passing.{EntriesPass, PassStands};
 ghost use Rattle.store_laws.specs.Swept.{SweptStands};
 ghost use Rattle.store_laws.specs.TellLaws.{TellsCells};
 
@@ -186,4 +186,10 @@ pub fn tells_cells()
 /// settled.
 pub fn entries_pass()
     ensures { EntriesPass }
+{}
+
+/// The contents stand behind the endings, with the queue without those that ended and the order of
+/// use with the pieces of those that got done.
+pub fn pass_stands()
+    ensures { PassStands }
 {}
