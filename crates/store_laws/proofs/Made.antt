@@ -1,6 +1,6 @@
 -- The views that a recipe gives stand for the cells of its blob, and lie inside their items.
-use Rattle.std.proofs.Common.{◌≡◌, ℕ, zero, suc, ◌+◌, ◌<◌, ◌≤◌, ◌&&◌, ◌||◌, not, Bool, true, false, cond, List, [], ◌∷◌, ◌++◌, map, take, drop, length, refl, ap, subst, sym, ◌∙◌, Option, Some, None, arith}
-use Rattle.std.specs.Prelude.{flat_map, is_none, unwrap_or, option_and_then, IfSome, IsSomeAnd}
+use Rattle.std.proofs.Common.{◌≡◌, ℕ, zero, suc, ◌+◌, ◌<◌, ◌≤◌, ◌&&◌, true, false, List, [], ◌∷◌, ◌++◌, map, take, drop, length, refl, ap, subst, sym, ◌∙◌, Option, Some, None, arith}
+use Rattle.std.specs.Prelude.{flat_map, is_none, IfSome, IsSomeAnd}
 use Rattle.std.specs.Option.{option_map_or}
 use Rattle.std.specs.List.{AllByRecursion, list_any, range_with_len}
 use Rattle.std.proofs.lemmas.Bool.{and_parts}
@@ -15,7 +15,7 @@ use Rattle.blob_items.specs.Cells.{cells, view_cells}
 use Rattle.blob_items.specs.declared.view.View.{View}
 use Rattle.blob_entries.specs.Book.{entry_at, is_done_at}
 use Rattle.blob_entries.specs.Contents.{is_own, made_cells, source_views}
-use Rattle.blob_entries.specs.Endings.{is_granted_status, misses}
+use Rattle.blob_entries.specs.Endings.{misses}
 use Rattle.blob_entries.specs.Holdings.{fixed_views, held_views, own_views}
 use Rattle.blob_entries.specs.Names.{number_of}
 use Rattle.blob_entries.specs.Sound.{AreOwn, StepFits}
@@ -29,7 +29,7 @@ use Rattle.blob_model.specs.Pieces.{Piece}
 use Rattle.blob_model.proofs.Lists.{append_second, false_true}
 use Rattle.store_laws.specs.Cells.{cell_at, denoted}
 use Rattle.store_laws.specs.Items.{IsInside, IsLongAs, item_length, piece_of_item}
-use Rattle.store_laws.specs.Recipes.{StandsFor, own_cells, own_step_cells, recipe_cells, step_cells}
+use Rattle.store_laws.specs.Recipes.{StandsFor, own_cells, own_step_cells, recipe_cells}
 use Rattle.store_laws.proofs.Denoted.{denoted-append}
 use Rattle.store_laws.proofs.ViewHas.{append_first}
 

@@ -8,7 +8,7 @@ use Rattle.blob_registry.specs.Passes.{Finishes}
 use Rattle.blob_registry.specs.declared.ended_blob.EndedBlob.{EndedBlob}
 use Rattle.page_files.specs.Files.{Files}
 use Rattle.quota_queue.specs.Queue.{Queue}
-use Rattle.blob_model.specs.Builds.{Build, builds}
+use Rattle.blob_model.specs.Builds.{builds}
 use Rattle.blob_model.specs.History.{History}
 use Rattle.blob_model.specs.Jobs.{paging}
 use Rattle.blob_model.specs.Pieces.{Piece, pieces}

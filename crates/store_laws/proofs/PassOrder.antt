@@ -1,9 +1,8 @@
 -- The order of use behind a pass.
-use Rattle.std.proofs.Common.{◌≡◌, ℕ, ◌==◌, ◌&&◌, ◌||◌, not, Bool, true, false, cond, List, [], ◌∷◌, ◌++◌, map, refl, ap, subst, sym, ◌∙◌, Option, Some, None, arith}
-use Rattle.std.specs.Prelude.{filter, filter_map, find, flat_map, fold, is_none, nat_eq}
-use Rattle.std.specs.Option.{option_map}
-use Rattle.std.specs.List.{AllByRecursion, cons_option, list_any}
-use Rattle.std.proofs.lemmas.Bool.{and_parts, eqb-true, eq-eqb}
+use Rattle.std.proofs.Common.{◌≡◌, ℕ, ◌==◌, ◌&&◌, ◌||◌, not, Bool, true, false, cond, List, [], ◌∷◌, ◌++◌, map, refl, ap, sym, ◌∙◌, Option, Some, None}
+use Rattle.std.specs.Prelude.{filter, filter_map, flat_map, fold, nat_eq}
+use Rattle.std.specs.List.{cons_option, list_any}
+use Rattle.std.proofs.lemmas.Bool.{eqb-true, eq-eqb}
 use Rattle.std.proofs.lemmas.List.Elements.{filter_map-append}
 use Rattle.std.proofs.lemmas.List.Sums.{fold-append}
 use Rattle.blob_words.specs.declared.status.Status.{Status}
@@ -13,7 +12,6 @@ use Rattle.blob_registry.specs.declared.ended_blob.EndedBlob.{EndedBlob}
 use Rattle.blob_model.specs.History.{History, said, said_all}
 use Rattle.blob_model.specs.Session.{Session, page_limit}
 use Rattle.blob_model.specs.Victims.{last_uses, used}
-use Rattle.blob_model.proofs.Lists.{false_true}
 use Rattle.registry_laws.specs.Laws.{ending_answer}
 use Rattle.store_laws.specs.Passing.{done_pieces, entered}
 use Rattle.store_laws.specs.Uses.{own_pieces}

@@ -1,5 +1,5 @@
 -- Who waits still behind a pass.
-use Rattle.std.proofs.Common.{◌≡◌, ℕ, ◌==◌, ◌&&◌, ◌||◌, not, Bool, true, false, cond, List, [], ◌∷◌, map, refl, ap, sym, ◌∙◌, Option, Some, None}
+use Rattle.std.proofs.Common.{◌≡◌, ℕ, ◌==◌, ◌&&◌, not, Bool, true, false, cond, List, [], ◌∷◌, map, refl, ap, sym, ◌∙◌, Option, Some}
 use Rattle.std.specs.Prelude.{filter, fold, is_none}
 use Rattle.std.specs.List.{list_any}
 use Rattle.blob_words.specs.declared.status.Status.{Status}

@@ -1,7 +1,7 @@
 -- Outlines, marks, rows and items behind a pass.
 use Rattle.std.proofs.Common.{◌≡◌, ℕ, Bool, true, false, cond, ◌&&◌, not, List, [], ◌∷◌, map, refl, ap, subst, sym, ◌∙◌, Option, Some, None}
 use Rattle.std.specs.Prelude.{is_none, unwrap_or, IfSome, IsSomeAnd}
-use Rattle.std.specs.Option.{option_map, option_map_or}
+use Rattle.std.specs.Option.{option_map}
 use Rattle.blob_words.specs.declared.plan.Plan.{Plan}
 use Rattle.blob_words.specs.declared.plan.Plan.TheVariants as plans
 use Rattle.blob_words.specs.declared.status.Status.{Status}
@@ -24,7 +24,7 @@ use Rattle.blob_model.specs.Own.{pending_status}
 use Rattle.blob_model.specs.Pieces.{Piece}
 use Rattle.blob_model.specs.Session.{Session, page_limit}
 use Rattle.blob_model.specs.Settle.{endings}
-use Rattle.blob_model.specs.Standing.{ended, grants_at_once, is_granted, is_unfinished, was_granted}
+use Rattle.blob_model.specs.Standing.{ended, is_granted, is_unfinished, was_granted}
 use Rattle.blob_model.specs.Transport.{has_all}
 use Rattle.blob_model.specs.Waits.{is_shared}
 use Rattle.blob_model.proofs.Lists.{false_true}

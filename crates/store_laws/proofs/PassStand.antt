@@ -1,6 +1,6 @@
 -- What a pass leaves of entries, rows and items stands behind the endings.
-use Rattle.std.proofs.Common.{◌≡◌, ℕ, ◌+◌, Bool, true, cond, List, [], ◌∷◌, map, length, refl, ap, subst, sym, ◌∙◌, Option, Some, None, arith}
-use Rattle.std.specs.Prelude.{option_and_then, IfSome}
+use Rattle.std.proofs.Common.{◌≡◌, ℕ, ◌+◌, Bool, cond, List, [], ◌∷◌, map, length, refl, ap, subst, sym, ◌∙◌, Option, Some, None, arith}
+use Rattle.std.specs.Prelude.{IfSome}
 use Rattle.std.specs.Option.{option_map, option_map_or}
 use Rattle.std.specs.List.{AllByRecursion}
 use Rattle.item_shares.specs.Shares.{item_at}
@@ -21,10 +21,9 @@ use Rattle.blob_model.specs.History.{History}
 use Rattle.blob_model.specs.Order.{Distinct}
 use Rattle.blob_model.specs.Pieces.{Piece, pieces}
 use Rattle.blob_model.specs.Session.{Session, page_limit}
-use Rattle.blob_model.specs.Settle.{endings}
 use Rattle.blob_model.specs.Standing.{is_unfinished}
 use Rattle.blob_model.proofs.Lists.{for_each}
-use Rattle.registry_laws.specs.Agree.{Agrees, AgreesInMarks, AgreesWith, Beside}
+use Rattle.registry_laws.specs.Agree.{Agrees, AgreesInMarks, Beside}
 use Rattle.registry_laws.specs.Laws.{Describes}
 use Rattle.registry_laws.proofs.Lives.{IsBehind, behind_all, behind_here, behind_next}
 use Rattle.registry_laws.proofs.Passed.{AllEnd, pass_agrees}

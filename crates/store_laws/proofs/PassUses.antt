@@ -3,7 +3,7 @@ use Rattle.std.proofs.Common.{◌≡◌, ℕ, suc, ◌+◌, ◌==◌, ◌&&◌, 
 use Rattle.std.specs.Prelude.{is_some, filter, filter_map, find, flat_map, fold, is_none, IfSome}
 use Rattle.std.specs.Option.{option_map, option_map_or, option_to_list}
 use Rattle.std.specs.List.{AllByRecursion, cons_option, list_any}
-use Rattle.std.proofs.lemmas.Bool.{and_parts, eqb-true, eq-eqb, or_parts}
+use Rattle.std.proofs.lemmas.Bool.{eqb-true, eq-eqb, or_parts}
 use Rattle.std.proofs.lemmas.List.Sums.{sum_by-cons}
 use Rattle.blob_words.specs.declared.status.Status.{Status}
 use Rattle.blob_words.specs.declared.status.Status.TheVariants as statuses
@@ -12,18 +12,13 @@ use Rattle.item_shares.specs.Shares.{item_at}
 use Rattle.item_shares.specs.Weights.{held_weight, weights}
 use Rattle.item_shares.specs.declared.item.Item.{Item}
 use Rattle.item_shares.specs.declared.shares.Share.{Share}
-use Rattle.blob_entries.specs.Book.{Book}
-use Rattle.blob_entries.specs.Counted.{SameItems}
 use Rattle.blob_entries.specs.Statuses as code
-use Rattle.blob_registry.specs.Passes.{Finishes}
 use Rattle.blob_registry.specs.declared.ended_blob.EndedBlob.{EndedBlob}
-use Rattle.page_files.specs.Files.{Files}
-use Rattle.quota_queue.specs.Queue.{Queue}
 use Rattle.blob_model.specs.Builds.{Build, builds}
 use Rattle.blob_model.specs.History.{History, said, said_all}
-use Rattle.blob_model.specs.Jobs.{is_in_job, paging}
+use Rattle.blob_model.specs.Jobs.{is_in_job}
 use Rattle.blob_model.specs.Pages.{is_memory, place_in}
-use Rattle.blob_model.specs.Pieces.{Piece, pieces, pieces_of}
+use Rattle.blob_model.specs.Pieces.{Piece, pieces}
 use Rattle.blob_model.specs.Session.{Session, page_limit}
 use Rattle.blob_model.specs.Settle.{ending, ending_answers, endings, endings_of}
 use Rattle.blob_model.specs.Standing.{ended, is_done, is_done_status, is_unfinished}
@@ -31,15 +26,13 @@ use Rattle.blob_model.specs.Victims.{last_uses, with_length}
 use Rattle.blob_model.proofs.Lists.{false_true, for_each, or_first, or_second}
 use Rattle.blob_model.proofs.live.Agreement.{said_append}
 use Rattle.blob_model.proofs.settled.Endings.{ending_only, one_by}
-use Rattle.registry_laws.specs.Laws.{Describes, ending_answer}
-use Rattle.registry_laws.specs.Agree.{AgreesInMarks}
+use Rattle.registry_laws.specs.Laws.{ending_answer}
 use Rattle.store_laws.specs.Items.{AreOnePerPiece, holds_piece}
 use Rattle.store_laws.specs.LetGo.{AreFreed}
-use Rattle.store_laws.specs.PageFiles.{PageFacts, PagesStand}
 use Rattle.store_laws.specs.Passing.{after_pass, done_pieces, entered, pieces_entered, rows_passed}
 use Rattle.store_laws.specs.Rows.{Row, bare, is_gathered, rows_of}
-use Rattle.store_laws.specs.Uses.{held_pieces, is_held, order_of, own_pieces, page_facts_of, pageable_of}
-use Rattle.store_laws.proofs.Letting.{filter_same, filter_twice, holds_any, is_of, left_in, number_of_piece, pages_let_go}
+use Rattle.store_laws.specs.Uses.{held_pieces, is_held, order_of, own_pieces, pageable_of}
+use Rattle.store_laws.proofs.Letting.{filter_twice, holds_any, is_of, left_in, number_of_piece}
 use Rattle.store_laws.proofs.OrderLeft.{done_over, length_left, not_gathered, number_kept, or_none, passing, uses_left}
 use Rattle.store_laws.proofs.PassKeeps.{endings_keep}
 use Rattle.store_laws.proofs.PassOrder.{all_used, entered_same, stays, uses_said}

@@ -1,5 +1,5 @@
 -- What a pass over the unfinished entries leaves stands behind the endings. Own.
-use Rattle.std.specs.Prelude.{ℕ, ◌≡◌, ◌++◌, Bool, true, false, List, [], ◌∷◌, map, flat_map, filter_map, fold, Option, if◌then◌else◌}
+use Rattle.std.specs.Prelude.{ℕ, ◌++◌, Bool, true, false, List, [], ◌∷◌, map, flat_map, filter_map, fold, Option, if◌then◌else◌}
 use Rattle.std.specs.Option.{option_map}
 use Rattle.item_shares.specs.declared.shares.Share.{Share}
 use Rattle.blob_entries.specs.Book.{Book}
