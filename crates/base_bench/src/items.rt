@@ -13,6 +13,7 @@ fn fill(alloc: Global, count: u32) -> Result<Shares, NoMemory>
 {
     let mut shares = Shares::new(alloc)?;
     for piece in 0..count {
+        // the slots aren't asked for: they rise from 0
         let _slot = shares.add(Item::Reserved {
             piece: PieceNo(piece),
             len: 4,
@@ -30,7 +31,7 @@ fn share_and_release(shares: &mut Shares, slot: usize) -> bool
         return false;
     }
     shares.share(slot);
-    let _item = shares.release(slot);
+    let _item = shares.release(slot); // None: a view is left
     true
 }
 

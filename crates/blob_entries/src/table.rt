@@ -78,7 +78,7 @@ impl Table {
         ensures most { result ≤ MOST_BLOBS }
         ensures sound { AreSound self.now.names self.now.entries }
     {
-        let _ = &self.entries;
+        let _ = &self.entries; // says that the invariant holds
         self.names.len()
     }
 
@@ -265,7 +265,7 @@ impl Table {
     pub fn name_under(&self, number: usize) -> Option<BlobName>
         ensures { result ≡ name_under self.now number }
     {
-        let _entry = entry_at(&self.entries, number)?;
+        let _entry = entry_at(&self.entries, number)?; // None once it went
         self.names.name_at(number)
     }
 

@@ -322,7 +322,7 @@ impl Registry {
         ensures { option_copied result ≡ dependents_of self.now name }
     {
         let number = self.table.find(name)?;
-        let _entry = self.table.entry(number)?;
+        let _entry = self.table.entry(number)?; // None once it went
         Some(list_at(&self.work.dependents, number))
     }
 

@@ -28,11 +28,11 @@ fn strike(list: &mut Octets64, number: u64)
     ensures { list.new ≡ without number list.old }
 {
     if ends_in(list, number) {
-        let _last = list.pop();
+        let _last = list.pop(); // the number itself
         return;
     }
     if let Some(place) = place_of(list.as_slice(), number) {
-        let _struck = list.remove(place);
+        let _struck = list.remove(place); // the number itself
     }
 }
 

@@ -39,31 +39,44 @@ module _ (limits : Limits) (version : Version) (parts : Parts) where
 
   whole_emptied : Whole emptied
   whole_emptied = record {
-    charged = record {
-      counts = λ slot. refl;
-      unpinned = λ slot some. refl;
-      used = refl;
-      reserved = refl;
-      held_so = refl;
+    stored = record {
+      items = λ slot. tt;
+      ranges = λ k. omega arith;
+      pages = λ number. tt;
+      job = tt;
+      order = tt;
+      rows_stored = λ number. tt;
+      in_turn = refl;
+      enough = omega arith;
+      most = omega arith;
+      memory_limit = refl;
+      disk_limit = refl;
+      weight_so = refl;
+      light = omega arith;
     };
-    items = λ slot. tt;
-    ranges = λ k. omega arith;
-    views = λ number. tt;
-    pages = tt;
-    job = tt;
-    order = tt;
-    rows = refl;
-    awaited = λ number. tt;
-    unheld = λ number. tt;
-    waits = refl;
-    weight = refl;
-    light = omega arith;
-    weighed = λ number. tt;
-    living = λ number fresh. refl;
-    roots = λ name. refl;
-    few = λ name. omega arith;
-    readers = λ number. tt;
-    opened = omega arith;
+    blobs = record {
+      charged = record {
+        counts = λ slot. refl;
+        unpinned = λ slot some. refl;
+        used = refl;
+        reserved = refl;
+        held_so = refl;
+      };
+      views = λ number. tt;
+      names = λ number. tt;
+      each_row = refl;
+      awaited = λ number. tt;
+      waits = refl;
+      weighed = λ number. tt;
+    };
+    holders = record {
+      living = λ number fresh. refl;
+      roots = λ name. refl;
+      few = λ name. omega arith;
+      readers = λ number. tt;
+      owned = record { readers = λ number. tt; urls = λ text. tt };
+      opened = omega arith;
+    };
   }
 
   module _ (new : IsNew limits version parts) where

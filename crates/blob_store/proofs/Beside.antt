@@ -5,7 +5,7 @@ use Rattle.std.specs.Option.{option_map, option_map_or}
 use Rattle.std.proofs.lemmas.List.Sums.{sum_by-cons}
 use Rattle.item_shares.specs.declared.shares.Share.{Share}
 use Rattle.item_shares.specs.Weights.{weights}
-use Rattle.blob_entries.specs.Book.{entry_at}
+use Rattle.blob_entries.specs.Book.{Book, entry_at}
 use Rattle.blob_entries.specs.Holdings.{views_in}
 use Rattle.blob_entries.specs.declared.entry.Entry.{Entry}
 use Rattle.page_files.specs.Files.{Files}
@@ -18,7 +18,7 @@ use Rattle.blob_store.specs.declared.row.Sending.{Sending}
 use Rattle.blob_store.specs.declared.row.Sending.TheVariants.{Settled, Waiting, Gathering, Writing}
 use Rattle.blob_store.specs.Rows.{bytes_gathered, gathered_bytes, pins, sending_slots}
 use Rattle.blob_store.specs.Seen.{coming_of, row_of, rows_beside}
-use Rattle.blob_store.specs.Whole.{Charged, IsAwaited}
+use Rattle.blob_store.specs.Blobs.{Blobs, IsAwaited}
 
 same_slots : (sending : Sending) → coming_slots (coming_of sending) ≡ sending_slots sending
 same_slots Settled = refl
@@ -32,10 +32,15 @@ same_bytes Waiting = refl
 same_bytes (Gathering segments) = refl
 same_bytes (Writing slots came) = refl
 
-abbrev AreAwaited : List (Option Entry) → List Row → Type 0
-AreAwaited entries rows = (number : ℕ) → IfSome (slice_get rows number) (IsAwaited (entry_at entries number))
+-- bytes come for blobs that stand alone
+abbrev IsSent : Option Entry → Row → Type 0
+IsSent None row = row.sending ≡ Settled
+IsSent (Some entry) row = Unit {0}
 
-slots_beside : (entries : List (Option Entry)) (rows : List Row) → length rows ≡ length entries → AreAwaited entries rows
+abbrev AreSent : List (Option Entry) → List Row → Type 0
+AreSent entries rows = (number : ℕ) → IfSome (slice_get rows number) (IsSent (entry_at entries number))
+
+slots_beside : (entries : List (Option Entry)) (rows : List Row) → length rows ≡ length entries → AreSent entries rows
     → flat_map row_slots (rows_beside entries rows) ≡ flat_map (λ (row : Row). sending_slots row.sending) rows
 slots_beside [] [] same all = refl
 slots_beside [] (row ∷ rows) same all = absurd (cc same)
@@ -44,11 +49,11 @@ slots_beside (held ∷ entries) (row ∷ rows) same all =
     ap (λ (list : List ℕ). list ++ flat_map row_slots (rows_beside entries rows)) (here held (all 0))
     ∙ ap (λ (list : List ℕ). sending_slots row.sending ++ list) (slots_beside entries rows (omega (arith, same)) (λ number. all (suc number)))
   where
-    here : (held : Option Entry) → IsAwaited held row → row_slots (option_map (λ (entry : Entry). row_of row) held) ≡ sending_slots row.sending
+    here : (held : Option Entry) → IsSent held row → row_slots (option_map (λ (entry : Entry). row_of row) held) ≡ sending_slots row.sending
     here None is = sym (ap sending_slots is)
     here (Some entry) is = same_slots row.sending
 
-bytes_beside : (entries : List (Option Entry)) (rows : List Row) → length rows ≡ length entries → AreAwaited entries rows
+bytes_beside : (entries : List (Option Entry)) (rows : List Row) → length rows ≡ length entries → AreSent entries rows
     → gathered (rows_beside entries rows) ≡ bytes_gathered rows
 bytes_beside [] [] same all = refl
 bytes_beside [] (row ∷ rows) same all = absurd (cc same)
@@ -60,17 +65,25 @@ bytes_beside (held ∷ entries) (row ∷ rows) same all =
     let rest = bytes_beside entries rows (omega (arith, same)) (λ number. all (suc number)) in
     omega (arith, said, kept, rest, here held (all 0))
   where
-    here : (held : Option Entry) → IsAwaited held row
+    here : (held : Option Entry) → IsSent held row
         → option_map_or (λ (each : RowSaid). bytes_coming each.coming) (option_map (λ (entry : Entry). row_of row) held) 0 ≡ gathered_bytes row.sending
     here None is = sym (ap gathered_bytes is)
     here (Some entry) is = same_bytes row.sending
 
-module _ (entries : List (Option Entry)) (shares : List (Option Share)) (rows : List Row) (quota : Queue) (files : Files) (held : ℕ)
-    (charged : Charged entries shares rows quota files held) (many : length rows ≡ length entries) (awaited : AreAwaited entries rows) where
-  pub counts_said : CountsViews entries (rows_beside entries rows) shares
-  counts_said slot =
-      charged.counts slot
-      ∙ ap (λ (list : List ℕ). views_in entries slot + count_by (λ (one : ℕ). one == slot) list) (sym (slots_beside entries rows many awaited))
+module _ (page : ℕ) (book : Book) (shares : List (Option Share)) (rows : List Row) (quota : Queue) (files : Files) (order : List (ℕ × ℕ)) (held : ℕ)
+    (blobs : Blobs page book shares rows quota files order held) (many : length rows ≡ length book.entries) where
+  sent : AreSent book.entries rows
+  sent number = by (slice_get rows number) (entry_at book.entries number) (blobs.awaited number)
+    where
+      by : (row : Option Row) (held : Option Entry) → IfSome row (IsAwaited page order held) → IfSome row (IsSent held)
+      by None held is = tt
+      by (Some row) None is = is
+      by (Some row) (Some entry) is = tt
 
-  pub used_said : quota.used ≡ weights memory_weight shares + gathered (rows_beside entries rows)
-  used_said = charged.used ∙ ap (λ (n : ℕ). weights memory_weight shares + n) (sym (bytes_beside entries rows many awaited))
+  pub counts_said : CountsViews book.entries (rows_beside book.entries rows) shares
+  counts_said slot =
+      blobs.charged.counts slot
+      ∙ ap (λ (list : List ℕ). views_in book.entries slot + count_by (λ (one : ℕ). one == slot) list) (sym (slots_beside book.entries rows many sent))
+
+  pub used_said : quota.used ≡ weights memory_weight shares + gathered (rows_beside book.entries rows)
+  used_said = blobs.charged.used ∙ ap (λ (n : ℕ). weights memory_weight shares + n) (sym (bytes_beside book.entries rows many sent))

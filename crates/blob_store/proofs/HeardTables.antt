@@ -37,7 +37,7 @@ use Rattle.store_laws.specs.LineLaws.{counted, handle_refusal, AreUnmarked}
 use Rattle.store_laws.specs.Roots.{rootless, AreRerooted}
 use Rattle.store_laws.specs.Rows.{Row as RowSaid}
 use Rattle.store_laws.specs.Stands.{Between, Stands}
-use Rattle.store_laws.specs.TableLaws.{open_at, reader_refusal, renderer_refusal, Departs, ReaderGoes, ReadersLeave, UrlsLeave}
+use Rattle.store_laws.specs.TableLaws.{open_at, reader_refusal, renderer_refusal, AllDepart, Departs, ReaderGoes, ReadersLeave, UrlsLeave}
 use Rattle.store_laws.proofs.ApartHistories.{keys_differ}
 use Rattle.store_laws.proofs.LineRefusals.{own_accepted}
 use Rattle.store_laws.proofs.Rerooted.{changed_rerooted}
@@ -52,7 +52,9 @@ use Rattle.blob_store.specs.declared.row.Row.{Row}
 use Rattle.blob_store.specs.Readers.{reader_at, Closes}
 use Rattle.blob_store.specs.Says.{scene, IsHeard}
 use Rattle.blob_store.specs.Seen.{parts_of, reader_of, row_of, rows_beside}
+use Rattle.blob_store.specs.Holders.{Owned}
 use Rattle.blob_store.proofs.Heard.{heard_refused}
+use Rattle.blob_store.proofs.Owning.{none_made, none_read}
 
 -- ---- what the laws see
 
@@ -310,3 +312,20 @@ module _ (s : Session) (groups : List Group) (parts : Parts) (told : Option (Lis
             (table_lines_stand.dying s h (is_live (page_limit s) h) (parts_of parts) told table unmarked stands.between keys.0 keys.1 renderer book
             renderers urls (map reader_of readers) same departs urls_go readers_go);
       }
+
+  -- nobody is left to own a URL or a reader
+  pub heard_finish : (book : Book) (renderers : Table) (urls : List (List ℕ × Url)) (readers : List (ℕ × OpenReader)) → AreRerooted parts.registry book
+      → AllDepart parts.renderers renderers → Owned renderers urls readers
+      → IsHeard s h events.Finish (answers.Good ∷ [])
+      (scene (record parts { registry = book; renderers = renderers; urls = urls; readers = readers }) told table)
+  heard_finish book renderers urls readers same depart owned = record {
+    is_own = own_accepted s h events.Finish (answers.Good ∷ []) refl (inl refl);
+    stands = subst (λ (list : List (List ℕ × Url)). Between s (heard h events.Finish answers.Good) (is_live (page_limit s) h)
+        (counted (parts_of (record parts { registry = book; renderers = renderers; urls = list; readers = readers }))) told table)
+        (sym (none_made renderers urls depart.origins owned.urls))
+        (subst (λ (list : List (ℕ × OpenReader)). Between s (heard h events.Finish answers.Good) (is_live (page_limit s) h)
+        (counted (parts_of (record parts { registry = book; renderers = renderers; urls = []; readers = list }))) told table)
+        (sym (none_read renderers readers depart.origins owned.readers))
+        (seen (heard h events.Finish answers.Good) book renderers [] parts.files [] same
+        (table_lines_stand.finishing s h (is_live (page_limit s) h) (parts_of parts) told table unmarked stands.between book renderers same depart)));
+  }

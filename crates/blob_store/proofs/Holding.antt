@@ -18,6 +18,9 @@ use Rattle.blob_entries.specs.Names.{number_of}
 use Rattle.blob_entries.specs.Statuses.{is_broken}
 use Rattle.blob_entries.specs.Weights.{cut_weight}
 use Rattle.blob_entries.specs.declared.entry.Entry.{Entry}
+use Rattle.page_files.specs.Files.{Files}
+use Rattle.quota_queue.specs.Queue.{Queue}
+use Rattle.blob_store.specs.declared.row.Row.{Row}
 use Rattle.renderer_table.specs.Counted.{origin_at, ChangesCount}
 use Rattle.renderer_table.specs.Counts.{one_fewer}
 use Rattle.renderer_table.specs.Table.{Table, count_of, counts_of, drop_fault, was_spawned, with_counts}
@@ -27,10 +30,14 @@ use Rattle.blob_store.specs.declared.readers.OpenReader.{OpenReader}
 use Rattle.blob_store.specs.Readers.{reader_at}
 use Rattle.blob_store.specs.Roots.{handles_of, roots_at, roots_in}
 use Rattle.blob_store.specs.Rows.{pins}
-use Rattle.blob_store.specs.Whole.{row_weights, with_line, IsInside, IsOpen, IsThere, Views, Whole}
+use Rattle.blob_store.specs.Blobs.{Awaits, Blobs, IsInside, IsThere, Views}
+use Rattle.blob_store.specs.Holders.{IsOpen, Owned}
+use Rattle.blob_store.specs.Stored.{row_weights}
+use Rattle.blob_store.specs.Whole.{with_line, Whole}
 use Rattle.blob_store.proofs.Changed.{awaited_changed, entry_changed, held_changed, views_changed}
 use Rattle.blob_store.proofs.Rooting.{handles_moved}
 use Rattle.blob_store.proofs.Faults.{none_due}
+use Rattle.blob_store.proofs.Owning.{owned_same}
 
 -- a change of the roots alone
 pub record Reroots (change : Entry → Entry) : Type 0 where
@@ -39,12 +46,13 @@ pub record Reroots (change : Entry → Entry) : Type 0 where
   pub recipe : (entry : Entry) → (change entry).recipe ≡ entry.recipe
   pub size : (entry : Entry) → (change entry).size ≡ entry.size
   pub status : (entry : Entry) → (change entry).status ≡ entry.status
+  pub own : (entry : Entry) → (change entry).own ≡ entry.own
 
 pub less_reroots : Reroots held_less
-less_reroots = record { views = λ entry. refl; bytes = λ entry. refl; recipe = λ entry. refl; size = λ entry. refl; status = λ entry. refl }
+less_reroots = record { views = λ entry. refl; bytes = λ entry. refl; recipe = λ entry. refl; size = λ entry. refl; status = λ entry. refl; own = λ entry. refl }
 
 pub more_reroots : Reroots held_more
-more_reroots = record { views = λ entry. refl; bytes = λ entry. refl; recipe = λ entry. refl; size = λ entry. refl; status = λ entry. refl }
+more_reroots = record { views = λ entry. refl; bytes = λ entry. refl; recipe = λ entry. refl; size = λ entry. refl; status = λ entry. refl; own = λ entry. refl }
 
 -- the roots of a name, once one fewer holds what stands under a name
 pub roots_less : (book : Book) (name other : ℕ)
@@ -79,14 +87,45 @@ module _ (change : Entry → Entry) (reroots : Reroots change) where
     there = subst (AllByRecursion (λ (view : View). IfSome (item_at shares view.slot) IsThere)) (sym (reroots.bytes entry)) is.there;
   }
 
+  -- entries agree with items and rows as before
+  blobs_changed : {page : ℕ} {shares : List (Option Share)} {rows : List Row} {quota : Queue} {files : Files} {order : List (ℕ × ℕ)} {held : ℕ} (book : Book)
+      (number : ℕ) → Blobs page book shares rows quota files order held → Blobs page (changed_at book number change) shares rows quota files order held
+  blobs_changed {page} {shares} {rows} {quota} {files} {order} book number blobs = record {
+    charged = record {
+      counts = λ slot.
+          blobs.charged.counts slot ∙ ap (λ (n : ℕ). n + pins slot rows) (sym (views_changed change reroots.views book.entries number slot));
+      unpinned = λ slot some.
+          blobs.charged.unpinned slot (subst (λ (n : ℕ). 0 < n) (views_changed change reroots.views book.entries number slot) some);
+      used = blobs.charged.used;
+      reserved = blobs.charged.reserved;
+      held_so = blobs.charged.held_so;
+    };
+    views = λ other. held_changed (Views shares) change (views_still shares) book.entries number other (blobs.views other);
+    names = blobs.names;
+    each_row = blobs.each_row;
+    awaited = λ other. awaited_changed page order change awaits_still book.entries number other (slice_get rows other) (blobs.awaited other);
+    waits = blobs.waits;
+    weighed = λ other. held_changed
+        (λ (entry : Entry). length (held_views entry) + cut_weight book.names (row_weights rows) entry.recipe ≤ slice_index (row_weights rows) other)
+        change (λ entry is. rw (reroots.views entry, reroots.recipe entry) is) book.entries number other (blobs.weighed other);
+  }
+    where
+      awaits_still : (row : Row) (entry : Entry) → Awaits page order row entry → Awaits page order row (change entry)
+      awaits_still row entry is = record {
+        comes = rw (reroots.status entry, reroots.own entry) is.comes;
+        owned = rw (reroots.status entry, reroots.recipe entry) is.owned;
+        unused = rw (reroots.status entry) is.unused;
+      }
+
   -- all parts agree, where the tables give the roots that the entries have, and the readers are open in what stands
   pub whole_rerooted : (parts : Parts) (renderers : Table) (urls : List (List ℕ × Url)) (readers : List (ℕ × OpenReader)) (lines name : ℕ) → Whole parts
       → ((number : ℕ) → was_spawned number renderers ≡ false → origin_at number renderers ≡ None)
       → ((other : ℕ) → roots_at (changed parts.registry name change) other ≡ roots_in renderers urls readers other)
       → ((other : ℕ) → roots_at (changed parts.registry name change) other ≤ lines)
       → ((number : ℕ) → IfSome (reader_at number readers) (IsOpen (changed parts.registry name change))) → length readers ≤ MOST_READERS
+      → Owned renderers urls readers
       → Whole (record parts { lines = lines; registry = changed parts.registry name change; renderers = renderers; urls = urls; readers = readers })
-  whole_rerooted parts renderers urls readers lines name whole living roots few are opened = by (number_of name parts.registry.names) roots few are
+  whole_rerooted parts renderers urls readers lines name whole living roots few are opened owned = by (number_of name parts.registry.names) roots few are
     where
       by : (found : Option ℕ)
           → ((other : ℕ) → roots_at (option_map_or (λ (number : ℕ). changed_at parts.registry number change) found parts.registry) other
@@ -102,59 +141,14 @@ module _ (change : Entry → Entry) (reroots : Reroots change) where
             readers = readers;
           })
       by None roots few are = record {
-        charged = whole.charged;
-        items = whole.items;
-        ranges = whole.ranges;
-        views = whole.views;
-        pages = whole.pages;
-        job = whole.job;
-        order = whole.order;
-        rows = whole.rows;
-        awaited = whole.awaited;
-        unheld = whole.unheld;
-        waits = whole.waits;
-        weight = whole.weight;
-        light = whole.light;
-        weighed = whole.weighed;
-        living = living;
-        roots = roots;
-        few = few;
-        readers = are;
-        opened = opened;
+        stored = whole.stored;
+        blobs = whole.blobs;
+        holders = record { living = living; roots = roots; few = few; readers = are; owned = owned; opened = opened };
       }
       by (Some number) roots few are = record {
-        charged = record {
-          counts = λ slot.
-              whole.charged.counts slot
-              ∙ ap (λ (n : ℕ). n + pins slot parts.rows) (sym (views_changed change reroots.views parts.registry.entries number slot));
-          unpinned = λ slot some.
-              whole.charged.unpinned slot (subst (λ (n : ℕ). 0 < n) (views_changed change reroots.views parts.registry.entries number slot) some);
-          used = whole.charged.used;
-          reserved = whole.charged.reserved;
-          held_so = whole.charged.held_so;
-        };
-        items = whole.items;
-        ranges = whole.ranges;
-        views = λ other. held_changed (Views parts.shares) change (views_still parts.shares) parts.registry.entries number other (whole.views other);
-        pages = whole.pages;
-        job = whole.job;
-        order = whole.order;
-        rows = whole.rows;
-        awaited = λ other. awaited_changed change parts.registry.entries number other (slice_get parts.rows other) (whole.awaited other);
-        unheld = whole.unheld;
-        waits = whole.waits;
-        weight = whole.weight;
-        light = whole.light;
-        weighed = λ other. held_changed
-            (λ (entry : Entry).
-            length (held_views entry) + cut_weight parts.registry.names (row_weights parts.rows) entry.recipe
-            ≤ slice_index (row_weights parts.rows) other)
-            change (λ entry is. rw (reroots.views entry, reroots.recipe entry) is) parts.registry.entries number other (whole.weighed other);
-        living = living;
-        roots = roots;
-        few = few;
-        readers = are;
-        opened = opened;
+        stored = whole.stored;
+        blobs = blobs_changed parts.registry number whole.blobs;
+        holders = record { living = living; roots = roots; few = few; readers = are; owned = owned; opened = opened };
       }
 
 -- a handle goes
@@ -164,12 +158,13 @@ pub whole_dropped : (parts : Parts) (id : RendererId) (name : ℕ) (renderers : 
     → Whole (record parts { registry = changed parts.registry name held_less; renderers = renderers })
 whole_dropped parts id name renderers whole due is changes =
     whole_rerooted held_less less_reroots parts renderers parts.urls parts.readers parts.lines name whole living roots few
-    (λ number. by (reader_at number parts.readers) (whole.readers number)) whole.opened
+    (λ number. by (reader_at number parts.readers) (whole.holders.readers number)) whole.holders.opened
+    (owned_same parts.renderers renderers parts.urls parts.readers changes.origins whole.holders.owned)
   where
     living : (number : ℕ) → was_spawned number renderers ≡ false → origin_at number renderers ≡ None
     living number fresh =
         changes.origins number
-        ∙ whole.living number (ap (λ (list : List ℕ). list_any (is_at (nat_cmp number)) list) (sym changes.spawned) ∙ fresh)
+        ∙ whole.holders.living number (ap (λ (list : List ℕ). list_any (is_at (nat_cmp number)) list) (sym changes.spawned) ∙ fresh)
 
     some : 0 < count_of id.0 name parts.renderers
     some = (none_due id name parts.renderers due).1
@@ -196,7 +191,7 @@ whole_dropped parts id name renderers whole due is changes =
         omega (arith, still, moved, had)
 
     few : (other : ℕ) → roots_at (changed parts.registry name held_less) other ≤ parts.lines
-    few other = let less = roots_less parts.registry name other in by (name == other) (omega (arith, less)) (whole.few other)
+    few other = let less = roots_less parts.registry name other in by (name == other) (omega (arith, less)) (whole.holders.few other)
       where
         by : (b : Bool) → roots_at (changed parts.registry name held_less) other ≤ cond b (roots_at parts.registry other - 1) (roots_at parts.registry other)
             → roots_at parts.registry other ≤ parts.lines → roots_at (changed parts.registry name held_less) other ≤ parts.lines
@@ -208,28 +203,19 @@ whole_dropped parts id name renderers whole due is changes =
         let one = (none_due id name parts.renderers due).0 in
         roots_less parts.registry name other
         ∙ here other (name == other) refl (changes.counts id.0 other)
-        (handles_moved id.0 parts.renderers renderers one.0 one.1 (one_fewer name (counts_of id.0 parts.renderers)) is other) (whole.roots other)
+        (handles_moved id.0 parts.renderers renderers one.0 one.1 (one_fewer name (counts_of id.0 parts.renderers)) is other) (whole.holders.roots other)
 
 -- one more line is counted
 pub whole_counted : (parts : Parts) → Whole parts → Whole (with_line parts)
 whole_counted parts whole = record {
-  charged = whole.charged;
-  items = whole.items;
-  ranges = whole.ranges;
-  views = whole.views;
-  pages = whole.pages;
-  job = whole.job;
-  order = whole.order;
-  rows = whole.rows;
-  awaited = whole.awaited;
-  unheld = whole.unheld;
-  waits = whole.waits;
-  weight = whole.weight;
-  light = whole.light;
-  weighed = whole.weighed;
-  living = whole.living;
-  roots = whole.roots;
-  few = λ name. omega (arith, whole.few name);
-  readers = whole.readers;
-  opened = whole.opened;
+  stored = whole.stored;
+  blobs = whole.blobs;
+  holders = record {
+    living = whole.holders.living;
+    roots = whole.holders.roots;
+    few = λ name. omega (arith, whole.holders.few name);
+    readers = whole.holders.readers;
+    owned = whole.holders.owned;
+    opened = whole.holders.opened;
+  };
 }

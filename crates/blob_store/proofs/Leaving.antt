@@ -5,8 +5,9 @@ use Rattle.std.specs.Option.{option_map, option_map_or}
 use Rattle.std.specs.List.{list_any}
 use Rattle.std.specs.Ordering.{nat_cmp}
 use Rattle.std.specs.BTreeMap.{is_at}
-use Rattle.std.specs.Map.{remove_entry, values_of}
+use Rattle.std.specs.Map.{lookup, remove_entry, set_value, values_of}
 use Rattle.std.proofs.lemmas.Bool.{eq-eqb, eqb-true}
+use Rattle.std.proofs.lemmas.Map.{length-set_value}
 use Rattle.std.proofs.lemmas.Map.Entries.{sum_by-remove_entry}
 use Rattle.blob_entries.specs.Book.{Book, changed, entry_of}
 use Rattle.blob_entries.specs.Changes.{held_less}
@@ -28,8 +29,10 @@ use Rattle.blob_store.specs.declared.readers.OpenReader.{OpenReader}
 use Rattle.blob_store.specs.Readers.{is_own, reader_at, ClosesFrom}
 use Rattle.blob_store.specs.Roots.{handles_of, roots_at, roots_in}
 use Rattle.blob_store.specs.Seen.{reader_of}
+use Rattle.blob_store.specs.Holders.{IsUnlinked, IsUnread}
 use Rattle.blob_store.specs.Whole.{Whole}
 use Rattle.blob_store.proofs.HeardTables.{goes_seen, open_said, open_seen}
+use Rattle.blob_store.proofs.Owning.{owned_dead, owned_same}
 use Rattle.blob_store.proofs.Rerooted.{whole_same}
 use Rattle.blob_store.proofs.Rerooting.{born_still, reader_roots, roots_fewer, stands_rooted, url_roots, whole_closed, whole_unnamed}
 use Rattle.blob_store.proofs.Rooting.{counts_now, handles_moved, living_now, on_held, within_handles}
@@ -157,7 +160,7 @@ pub whole_unlinked : (parts : Parts) (owner blob : ℕ) (urls : Urls) → Whole 
     → GoesFrom owner blob parts.urls urls → Whole (record parts { registry = changed parts.registry blob held_less; urls = urls })
 whole_unlinked parts owner blob urls whole told is goes =
     subst (λ (name : ℕ). Whole (record parts { registry = changed parts.registry name held_less; urls = urls })) goes.leads
-    (whole_unnamed parts goes.text goes.url urls whole goes.there (first_goes owner blob parts.urls urls told is goes))
+    (whole_unnamed parts goes.text goes.url urls whole goes.there (first_goes owner blob parts.urls urls told is goes) goes.goes)
 
 -- ---- handles
 
@@ -185,7 +188,7 @@ module _ (id name count : ℕ) (old new : Table) (alive : IsSome (living_of id o
 
 -- so many handles give the blob as many roots
 pub handles_rooted : (parts : Parts) (id name count : ℕ) → Whole parts → count_of id name parts.renderers ≡ count → count ≤ roots_at parts.registry name
-handles_rooted parts id name count whole counted = omega (arith, counted, within_handles id name parts.renderers, whole.roots name)
+handles_rooted parts id name count whole counted = omega (arith, counted, within_handles id name parts.renderers, whole.holders.roots name)
 
 -- counts of others stay
 pub others_stay : (id blob : ℕ) (first old new : Table) → ChangesCount (λ (n : ℕ). 0) id blob old new
@@ -202,9 +205,10 @@ pub whole_unheld : (parts : Parts) (book : Book) (id name count : ℕ) (counts :
     → ChangesCount (λ (n : ℕ). 0) id name parts.renderers renderers → Whole (record parts { registry = book; renderers = renderers })
 whole_unheld parts book id name count counts renderers whole same roots alive is counted changes =
     let one = some_living (living_of id parts.renderers) alive in
-    whole_same parts book renderers parts.urls parts.readers whole same (born_still (λ (n : ℕ). 0) id name parts.renderers renderers whole.living changes)
+    whole_same parts book renderers parts.urls parts.readers whole same (born_still (λ (n : ℕ). 0) id name parts.renderers renderers whole.holders.living changes)
     (λ other. by other (name == other) refl (roots other) (left other) (handles_moved id parts.renderers renderers one.0 one.1 counts is other))
-    (λ other. few other (name == other) (roots other)) whole.readers whole.opened
+    (λ other. few other (name == other) (roots other)) whole.holders.readers whole.holders.opened
+    (owned_same parts.renderers renderers parts.urls parts.readers changes.origins whole.holders.owned)
   where
     left : (other : ℕ) → count_of id other renderers ≡ cond (name == other) 0 (count_of id other parts.renderers)
     left other =
@@ -216,21 +220,23 @@ whole_unheld parts book id name count counts renderers whole same roots alive is
         → roots_at book other ≡ roots_in renderers parts.urls parts.readers other
     by other true at root none moved =
         let had = subst (λ (n : ℕ). count_of id n parts.renderers ≡ count) (eqb-true name other at) counted in
-        omega (arith, root, none, moved, had, whole.roots other, within_handles id other parts.renderers)
-    by other false at root still moved = omega (arith, root, still, moved, whole.roots other)
+        omega (arith, root, none, moved, had, whole.holders.roots other, within_handles id other parts.renderers)
+    by other false at root still moved = omega (arith, root, still, moved, whole.holders.roots other)
 
     few : (other : ℕ) (b : Bool) → roots_at book other ≡ cond b (roots_at parts.registry other - count) (roots_at parts.registry other)
         → roots_at book other ≤ parts.lines
-    few other true root = omega (arith, root, whole.few other)
-    few other false root = omega (arith, root, whole.few other)
+    few other true root = omega (arith, root, whole.holders.few other)
+    few other false root = omega (arith, root, whole.holders.few other)
 
 -- a renderer without handles goes
 pub whole_dead : (parts : Parts) (id : ℕ) (renderers : Table) → Whole parts
     → renderers ≡ record parts.renderers { living = remove_entry (is_at (nat_cmp id)) parts.renderers.living } → Dies id parts.renderers renderers
+    → IsUnread id parts.readers → IsUnlinked id parts.urls
     → Whole (record parts { renderers = renderers })
-whole_dead parts id renderers whole is dies =
+whole_dead parts id renderers whole is dies unread unmade =
     whole_same parts parts.registry renderers parts.urls parts.readers whole (record { names = refl; entries = refl }) living
-    (λ name. let same = handles name in omega (arith, same, whole.roots name)) whole.few whole.readers whole.opened
+    (λ name. let same = handles name in omega (arith, same, whole.holders.roots name)) whole.holders.few whole.holders.readers whole.holders.opened
+    (owned_dead id parts.renderers renderers parts.urls parts.readers dies unread unmade whole.holders.owned)
   where
     handles : (name : ℕ) → handles_of name renderers ≡ handles_of name parts.renderers
     handles name =
@@ -244,4 +250,32 @@ whole_dead parts id renderers whole is dies =
       where
         by : (b : Bool) → cond b None (origin_at number parts.renderers) ≡ None
         by true = refl
-        by false = whole.living number (ap (λ (list : List ℕ). list_any (is_at (nat_cmp number)) list) (sym dies.spawned) ∙ fresh)
+        by false = whole.holders.living number (ap (λ (list : List ℕ). list_any (is_at (nat_cmp number)) list) (sym dies.spawned) ∙ fresh)
+
+-- ---- how many live
+
+-- other counts leave as many
+pub as_many : (id : ℕ) (counts : List (ℕ × ℕ)) (old new : Table) → new ≡ with_counts id counts old → length new.living ≡ length old.living
+as_many id counts old new is = ap (λ (table : Table). length table.living) is ∙ by (living_of id old)
+  where
+    by : (held : Option Living)
+        → length (option_map_or (λ (one : Living). set_value (is_at (nat_cmp id)) old.living (record one { counts = counts })) held old.living)
+        ≡ length old.living
+    by None = refl
+    by (Some one) = length-set_value (is_at (nat_cmp id)) old.living (record one { counts = counts })
+
+-- and one that dies one fewer
+pub one_fewer_lives : (id : ℕ) (old new : Table) → IsSome (living_of id old)
+    → new ≡ record old { living = remove_entry (is_at (nat_cmp id)) old.living } → length new.living < length old.living
+one_fewer_lives id old new alive is =
+    subst (λ (table : Table). length table.living < length old.living) (sym is) (removed old.living alive)
+  where
+    removed : (living : List (ℕ × Living)) → IsSome (lookup (is_at (nat_cmp id)) living) → length (remove_entry (is_at (nat_cmp id)) living) < length living
+    removed [] is = absurd (cc is)
+    removed (one ∷ living) is = by (is_at (nat_cmp id) one.0) is (removed living)
+      where
+        by : (b : Bool) → IsSome (cond b (Some one.1) (lookup (is_at (nat_cmp id)) living))
+            → (IsSome (lookup (is_at (nat_cmp id)) living) → length (remove_entry (is_at (nat_cmp id)) living) < length living)
+            → length (cond b living (one ∷ remove_entry (is_at (nat_cmp id)) living)) < length (one ∷ living)
+        by true is rest = omega arith
+        by false is rest = let less = rest is in omega (arith, less)

@@ -3,6 +3,7 @@ pub mod OwnedReaders
 pub mod Opening
 pub mod Rooting
 pub mod Changed
+pub mod Owning
 pub mod Faults
 pub mod Holding
 pub mod Spawning
@@ -12,7 +13,6 @@ pub mod Heard
 pub mod HeldBy
 pub mod Few
 pub mod Beside
-pub mod Freeing
 pub mod Rerooting
 pub mod HeardTables
 pub mod Rerooted

@@ -15,6 +15,7 @@ use Rattle.blob_entries.specs.Book.{changed, entry_of}
 use Rattle.blob_entries.specs.Changes.{held_more}
 use Rattle.blob_entries.specs.Statuses.{is_broken}
 use Rattle.blob_entries.specs.declared.entry.Entry.{Entry}
+use Rattle.renderer_table.specs.Counted.{origin_at}
 use Rattle.url_store.specs.Urls.{resolved, url_at, without_fragment}
 use Rattle.url_store.specs.declared.url.Url.{Url}
 use Rattle.blob_model.specs.Readers.{OpenReader as ReaderSaid}
@@ -25,8 +26,10 @@ use Rattle.blob_store.specs.Openings.{course_over, Asked, IsOpened, IsOpening, O
 use Rattle.blob_store.specs.Readers.{reader_at, Opens}
 use Rattle.blob_store.specs.Roots.{roots_at}
 use Rattle.blob_store.specs.Seen.{reader_of}
-use Rattle.blob_store.specs.Whole.{with_line, IsOpen, Whole}
+use Rattle.blob_store.specs.Holders.{IsOpen}
+use Rattle.blob_store.specs.Whole.{with_line, Whole}
 use Rattle.blob_store.proofs.HeardTables.{many_seen, open_said, open_seen}
+use Rattle.blob_store.proofs.Owning.{owned_opened}
 use Rattle.blob_store.proofs.Rerooting.{url_roots, whole_held}
 
 -- ---- what stands against it
@@ -120,12 +123,14 @@ module _ (owner : RendererId) (number : ReaderId) (name : ℕ) (entry : Entry) (
 
   pub whole_opened : (parts : Parts) (readers : List (ℕ × OpenReader)) → Whole parts → 0 < roots_at parts.registry name
       → entry_of parts.registry name ≡ Some entry → length parts.readers < MOST_READERS → Opens number.0 kept parts.readers readers
+      → IsSome (origin_at owner.0 parts.renderers)
       → Whole (with_line (record parts { registry = changed parts.registry name held_more; readers = readers }))
-  whole_opened parts readers whole rooted at few opens =
-      whole_held parts parts.renderers parts.urls readers name whole whole.living
+  whole_opened parts readers whole rooted at few opens alive =
+      whole_held parts parts.renderers parts.urls readers name whole whole.holders.living
       (λ other. subst (λ (held : Option OpenReader). IfSome held (IsOpen parts.registry)) (sym (opens.each other))
-      (by other (number.0 == other) (whole.readers other)))
-      (let more = opens.many in omega (arith, more, few)) rooted (λ other. let more = opens.reading other in omega (arith, more))
+      (by other (number.0 == other) (whole.holders.readers other)))
+      (let more = opens.many in omega (arith, more, few))
+      (owned_opened parts.renderers parts.urls number.0 kept parts.readers readers opens alive whole.holders.owned) rooted (λ other. let more = opens.reading other in omega (arith, more))
     where
       sized : is_broken entry.status ≡ false → kept.course.size ≡ entry.size
       sized sound = ap (λ (b : Bool). cond b off entry.size) sound

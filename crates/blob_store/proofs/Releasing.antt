@@ -3,7 +3,7 @@ use Rattle.std.proofs.Common.{◌≡◌, ℕ, ◌+◌, ◌<◌, List, ◌∷◌,
 use Rattle.std.proofs.lemmas.List.{drop_more}
 use Rattle.item_shares.specs.declared.item.Item.{Item}
 use Rattle.data_handles.specs.Table.{Table}
-use Rattle.blob_store.specs.Freed.{released_by, CanRelease, AreReleasable}
+use Rattle.store_laws.specs.Releasing.{released_by, CanRelease, AreReleasable}
 
 -- the next item can be released, and those behind it after it
 pub releasable_at : (table : Table) (items : List Item) (i : ℕ) (item : Item) → AreReleasable table (drop i items) → i < length items

@@ -11,6 +11,9 @@ use Rattle.blob_entries.specs.Statuses.{is_broken}
 use Rattle.blob_entries.specs.Weights.{cut_weight}
 use Rattle.blob_entries.specs.declared.entry.Entry.{Entry}
 use Rattle.blob_entries.proofs.Holdings.{in_cons, on_held}
+use Rattle.item_shares.specs.declared.shares.Share.{Share}
+use Rattle.page_files.specs.Files.{Files}
+use Rattle.quota_queue.specs.Queue.{Queue}
 use Rattle.renderer_table.specs.Counted.{origin_at}
 use Rattle.renderer_table.specs.Table.{Table, was_spawned}
 use Rattle.url_store.specs.declared.url.Url.{Url}
@@ -21,7 +24,10 @@ use Rattle.blob_store.specs.declared.row.Row.{Row}
 use Rattle.blob_store.specs.Readers.{reader_at}
 use Rattle.blob_store.specs.Roots.{roots_at, roots_in}
 use Rattle.blob_store.specs.Rows.{pins, waiting}
-use Rattle.blob_store.specs.Whole.{row_weights, IsAwaited, IsOpen, Views, Whole}
+use Rattle.blob_store.specs.Blobs.{Awaits, Blobs, IsAwaited, Views}
+use Rattle.blob_store.specs.Holders.{IsOpen, Owned}
+use Rattle.blob_store.specs.Stored.{row_weights}
+use Rattle.blob_store.specs.Whole.{Whole}
 
 abbrev Entries : Type 0
 Entries = List (Option Entry)
@@ -55,14 +61,18 @@ module _ (P : Entry → Type 0) (keeps : (entry : Entry) (roots : ℕ) → P ent
       let equal : with_roots 0 one ≡ with_roots 0 other = cc in
       keeps (with_roots 0 one) one.roots (subst P (sym equal) (keeps other 0 is))
 
-awaited_same : (new old : Option Entry) (row : Row) → bare new ≡ bare old → IsAwaited old row → IsAwaited new row
-awaited_same None None row same is = is
-awaited_same None (Some other) row same is = absurd (cc same)
-awaited_same (Some one) old row same is = tt
+module _ (page : ℕ) (order : List (ℕ × ℕ)) where
+  awaited_same : (new old : Option Entry) (row : Row) → bare new ≡ bare old → IsAwaited page order old row → IsAwaited page order new row
+  awaited_same None None row same is = is
+  awaited_same None (Some other) row same is = absurd (cc same)
+  awaited_same (Some one) None row same is = absurd (cc same)
+  awaited_same (Some one) (Some other) row same is =
+      if_same (Awaits page order row) (λ entry roots one. record { comes = one.comes; owned = one.owned; unused = one.unused }) (Some one) (Some other) same is
 
-if_awaited : (new old : Option Entry) (row : Option Row) → bare new ≡ bare old → IfSome row (IsAwaited old) → IfSome row (IsAwaited new)
-if_awaited new old None same is = tt
-if_awaited new old (Some row) same is = awaited_same new old row same is
+  if_awaited : (new old : Option Entry) (row : Option Row) → bare new ≡ bare old → IfSome row (IsAwaited page order old)
+      → IfSome row (IsAwaited page order new)
+  if_awaited new old None same is = tt
+  if_awaited new old (Some row) same is = awaited_same new old row same is
 
 views_without : (entries : Entries) (slot : ℕ) → views_in (rootless entries) slot ≡ views_in entries slot
 views_without [] slot = refl
@@ -91,49 +101,51 @@ open_same old new same reader is =
     some_same (λ (entry : Entry). is_broken entry.status ≡ false → reader.course.size ≡ entry.size) (λ entry roots one. one) (entry_of new reader.blob)
     (entry_of old reader.blob) (of_same old new same reader.blob) is
 
+-- entries agree with items and rows as before
+blobs_same : {page : ℕ} {shares : List (Option Share)} {rows : List Row} {quota : Queue} {files : Files} {order : List (ℕ × ℕ)} {held : ℕ}
+    (old new : Book) → AreRerooted old new → Blobs page old shares rows quota files order held → Blobs page new shares rows quota files order held
+blobs_same {page} {shares} {rows} {quota} {files} {order} old new same blobs = record {
+  charged = record {
+    counts = λ slot.
+        blobs.charged.counts slot ∙ ap (λ (n : ℕ). n + pins slot rows) (sym (views_same new.entries old.entries same.entries slot));
+    unpinned = λ slot some. blobs.charged.unpinned slot (subst (λ (n : ℕ). 0 < n) (views_same new.entries old.entries same.entries slot) some);
+    used = blobs.charged.used;
+    reserved = blobs.charged.reserved;
+    held_so = blobs.charged.held_so;
+  };
+  views = λ number. if_same (Views shares) (λ entry roots is. record { inside = is.inside; there = is.there }) (entry_at new.entries number)
+      (entry_at old.entries number) (same_at new.entries old.entries same.entries number) (blobs.views number);
+  names = λ number. subst (λ (names : List ℕ). IfSome (slice_get names number) (λ (name : ℕ). number_of name names ≡ Some number)) (sym same.names)
+      (blobs.names number);
+  each_row = blobs.each_row ∙ ap (λ (names : List ℕ). length names) (sym same.names);
+  awaited = λ number. if_awaited page order (entry_at new.entries number) (entry_at old.entries number) (slice_get rows number)
+      (same_at new.entries old.entries same.entries number) (blobs.awaited number);
+  waits = blobs.waits ∙ ap (λ (names : List ℕ). waiting names rows) (sym same.names);
+  weighed = λ number. subst
+      (λ (names : List ℕ). IfSome (entry_at new.entries number)
+      (λ (entry : Entry). length (held_views entry) + cut_weight names (row_weights rows) entry.recipe ≤ slice_index (row_weights rows) number))
+      (sym same.names)
+      (if_same (λ (entry : Entry). length (held_views entry) + cut_weight old.names (row_weights rows) entry.recipe ≤ slice_index (row_weights rows) number)
+      (λ entry roots is. is) (entry_at new.entries number) (entry_at old.entries number) (same_at new.entries old.entries same.entries number)
+      (blobs.weighed number));
+}
+
 pub whole_same : (parts : Parts) (book : Book) (renderers : Table) (urls : List (List ℕ × Url)) (readers : List (ℕ × OpenReader)) → Whole parts
     → AreRerooted parts.registry book → ((number : ℕ) → was_spawned number renderers ≡ false → origin_at number renderers ≡ None)
     → ((name : ℕ) → roots_at book name ≡ roots_in renderers urls readers name) → ((name : ℕ) → roots_at book name ≤ parts.lines)
-    → ((number : ℕ) → IfSome (reader_at number readers) (IsOpen parts.registry)) → length readers ≤ MOST_READERS
+    → ((number : ℕ) → IfSome (reader_at number readers) (IsOpen parts.registry)) → length readers ≤ MOST_READERS → Owned renderers urls readers
     → Whole (record parts { registry = book; renderers = renderers; urls = urls; readers = readers })
-whole_same parts book renderers urls readers whole same living roots few are opened = record {
-  charged = record {
-    counts = λ slot.
-        whole.charged.counts slot
-        ∙ ap (λ (n : ℕ). n + pins slot parts.rows) (sym (views_same book.entries parts.registry.entries same.entries slot));
-    unpinned = λ slot some.
-        whole.charged.unpinned slot (subst (λ (n : ℕ). 0 < n) (views_same book.entries parts.registry.entries same.entries slot) some);
-    used = whole.charged.used;
-    reserved = whole.charged.reserved;
-    held_so = whole.charged.held_so;
+whole_same parts book renderers urls readers whole same living roots few are opened owned = record {
+  stored = whole.stored;
+  blobs = blobs_same parts.registry book same whole.blobs;
+  holders = record {
+    living = living;
+    roots = roots;
+    few = few;
+    readers = λ number. by (reader_at number readers) (are number);
+    owned = owned;
+    opened = opened;
   };
-  items = whole.items;
-  ranges = whole.ranges;
-  views = λ number. if_same (Views parts.shares) (λ entry roots is. record { inside = is.inside; there = is.there }) (entry_at book.entries number)
-      (entry_at parts.registry.entries number) (same_at book.entries parts.registry.entries same.entries number) (whole.views number);
-  pages = whole.pages;
-  job = whole.job;
-  order = whole.order;
-  rows = whole.rows ∙ ap (λ (names : List ℕ). length names) (sym same.names);
-  awaited = λ number. if_awaited (entry_at book.entries number) (entry_at parts.registry.entries number) (slice_get parts.rows number)
-      (same_at book.entries parts.registry.entries same.entries number) (whole.awaited number);
-  unheld = whole.unheld;
-  waits = whole.waits ∙ ap (λ (names : List ℕ). waiting names parts.rows) (sym same.names);
-  weight = whole.weight;
-  light = whole.light;
-  weighed = λ number. subst
-      (λ (names : List ℕ). IfSome (entry_at book.entries number)
-      (λ (entry : Entry). length (held_views entry) + cut_weight names (row_weights parts.rows) entry.recipe ≤ slice_index (row_weights parts.rows) number))
-      (sym same.names)
-      (if_same (λ (entry : Entry).
-      length (held_views entry) + cut_weight parts.registry.names (row_weights parts.rows) entry.recipe ≤ slice_index (row_weights parts.rows) number)
-      (λ entry roots is. is) (entry_at book.entries number) (entry_at parts.registry.entries number)
-      (same_at book.entries parts.registry.entries same.entries number) (whole.weighed number));
-  living = living;
-  roots = roots;
-  few = few;
-  readers = λ number. by (reader_at number readers) (are number);
-  opened = opened;
 }
   where
     by : (held : Option OpenReader) → IfSome held (IsOpen parts.registry) → IfSome held (IsOpen book)

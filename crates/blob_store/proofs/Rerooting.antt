@@ -25,6 +25,7 @@ use Rattle.renderer_table.specs.Counts.{one_more}
 use Rattle.renderer_table.specs.Table.{Table, count_of, counts_of, living_of, pass_fault, was_spawned, with_counts}
 use Rattle.renderer_table.specs.declared.fault.PassFault.TheVariants as passes
 use Rattle.renderer_table.specs.declared.living.Living.{Living}
+use Rattle.url_store.specs.Changes.{Comes, Goes}
 use Rattle.url_store.specs.Urls.{url_at, with_url, without}
 use Rattle.url_store.specs.declared.url.Url.{Url}
 use Rattle.store_laws.specs.LineLaws.{handle_refusal}
@@ -32,10 +33,12 @@ use Rattle.blob_store.specs.declared.parts.Parts.{Parts}
 use Rattle.blob_store.specs.declared.readers.OpenReader.{OpenReader}
 use Rattle.blob_store.specs.Readers.{reader_at, Closes}
 use Rattle.blob_store.specs.Roots.{handles_of, leads, roots_at, roots_in, urls_of}
-use Rattle.blob_store.specs.Whole.{with_line, IsOpen, Whole}
+use Rattle.blob_store.specs.Holders.{IsOpen, Owned}
+use Rattle.blob_store.specs.Whole.{with_line, Whole}
 use Rattle.blob_store.proofs.Changed.{entry_changed}
 use Rattle.blob_store.proofs.HeldBy.{has_handle}
 use Rattle.blob_store.proofs.Holding.{more_reroots, open_still, whole_rerooted, Reroots}
+use Rattle.blob_store.proofs.Owning.{handle_owner, owned_closed, owned_made, owned_same, owned_unmade}
 use Rattle.blob_store.proofs.Rooting.{handles_moved, within_handles}
 
 abbrev Urls : Type 0
@@ -94,7 +97,7 @@ abbrev pub fewer : ℕ → Entry → Entry
 fewer k entry = with_roots (entry.roots - k) entry
 
 fewer_reroots : (k : ℕ) → Reroots (fewer k)
-fewer_reroots k = record { views = λ entry. refl; bytes = λ entry. refl; recipe = λ entry. refl; size = λ entry. refl; status = λ entry. refl }
+fewer_reroots k = record { views = λ entry. refl; bytes = λ entry. refl; recipe = λ entry. refl; size = λ entry. refl; status = λ entry. refl; own = λ entry. refl }
 
 pub roots_fewer : (book : Book) (name k other : ℕ)
     → roots_at (changed book name (fewer k)) other ≡ cond (name == other) (roots_at book other - k) (roots_at book other)
@@ -117,7 +120,7 @@ open_changed change reroots book name readers are number = by (reader_at number 
     by (Some reader) is = open_still change reroots book name reader is
 
 module _ (parts : Parts) (renderers : Table) (urls : Urls) (readers : Open) (name : ℕ) (whole : Whole parts) (living : AreBorn renderers)
-    (are : AreOpen parts.registry readers) (opened : length readers ≤ MOST_READERS) where
+    (are : AreOpen parts.registry readers) (opened : length readers ≤ MOST_READERS) (owned : Owned renderers urls readers) where
   pub whole_held : 0 < roots_at parts.registry name
       → ((other : ℕ) → roots_in renderers urls readers other ≡ roots_in parts.renderers parts.urls parts.readers other + cond (name == other) 1 0)
       → Whole (with_line (record parts {
@@ -128,9 +131,9 @@ module _ (parts : Parts) (renderers : Table) (urls : Urls) (readers : Open) (nam
       }))
   whole_held has more =
       whole_rerooted held_more more_reroots parts renderers urls readers (parts.lines + 1) name whole living
-      (λ other. roots_more parts.registry name other has ∙ root_by other (name == other) (whole.roots other) (more other))
-      (λ other. let is = roots_more parts.registry name other has in few_by other (name == other) is (whole.few other))
-      (open_changed held_more more_reroots parts.registry name readers are) opened
+      (λ other. roots_more parts.registry name other has ∙ root_by other (name == other) (whole.holders.roots other) (more other))
+      (λ other. let is = roots_more parts.registry name other has in few_by other (name == other) is (whole.holders.few other))
+      (open_changed held_more more_reroots parts.registry name readers are) opened owned
     where
       root_by : (other : ℕ) (b : Bool) → roots_at parts.registry other ≡ roots_in parts.renderers parts.urls parts.readers other
           → roots_in renderers urls readers other ≡ roots_in parts.renderers parts.urls parts.readers other + cond b 1 0
@@ -156,9 +159,9 @@ module _ (parts : Parts) (renderers : Table) (urls : Urls) (readers : Open) (nam
         })
     whole_let_go less =
         whole_rerooted (fewer k) (fewer_reroots k) parts renderers urls readers parts.lines name whole living
-        (λ other. roots_fewer parts.registry name k other ∙ root_by other (name == other) (whole.roots other) (less other))
-        (λ other. let is = roots_fewer parts.registry name k other in few_by other (name == other) is (whole.few other))
-        (open_changed (fewer k) (fewer_reroots k) parts.registry name readers are) opened
+        (λ other. roots_fewer parts.registry name k other ∙ root_by other (name == other) (whole.holders.roots other) (less other))
+        (λ other. let is = roots_fewer parts.registry name k other in few_by other (name == other) is (whole.holders.few other))
+        (open_changed (fewer k) (fewer_reroots k) parts.registry name readers are) opened owned
       where
         root_by : (other : ℕ) (b : Bool) → roots_at parts.registry other ≡ roots_in parts.renderers parts.urls parts.readers other
             → roots_in renderers urls readers other + cond b k 0 ≡ roots_in parts.renderers parts.urls parts.readers other
@@ -203,19 +206,20 @@ pub giver_roots : (parts : Parts) (giver taker : RendererId) (name : ℕ) → Wh
     → 0 < roots_at parts.registry name
 giver_roots parts giver taker name whole due =
     let some = (none_passes giver taker name parts.renderers due).1 in
-    omega (arith, some, within_handles giver.0 name parts.renderers, whole.roots name)
+    omega (arith, some, within_handles giver.0 name parts.renderers, whole.holders.roots name)
 
 -- no count is above the number of lines
 pub count_below : (parts : Parts) (id : RendererId) (name : ℕ) → Whole parts → parts.lines < 2 ^ 63 → count_of id.0 name parts.renderers < 2 ^ 63
-count_below parts id name whole short = omega (arith, within_handles id.0 name parts.renderers, whole.roots name, whole.few name, short)
+count_below parts id name whole short = omega (arith, within_handles id.0 name parts.renderers, whole.holders.roots name, whole.holders.few name, short)
 
 pub whole_passed : (parts : Parts) (giver taker : RendererId) (name : ℕ) (renderers : Table) → Whole parts → pass_fault giver taker name parts.renderers ≡ None
     → renderers ≡ with_counts taker.0 (one_more name (counts_of taker.0 parts.renderers)) parts.renderers
     → ChangesCount (λ (count : ℕ). count + 1) taker.0 name parts.renderers renderers
     → Whole (with_line (record parts { registry = changed parts.registry name held_more; renderers = renderers }))
 whole_passed parts giver taker name renderers whole due is changes =
-    whole_held parts renderers parts.urls parts.readers name whole (born_still (λ (n : ℕ). n + 1) taker.0 name parts.renderers renderers whole.living changes)
-    whole.readers whole.opened (giver_roots parts giver taker name whole due)
+    whole_held parts renderers parts.urls parts.readers name whole (born_still (λ (n : ℕ). n + 1) taker.0 name parts.renderers renderers whole.holders.living changes)
+    whole.holders.readers whole.holders.opened
+    (owned_same parts.renderers renderers parts.urls parts.readers changes.origins whole.holders.owned) (giver_roots parts giver taker name whole due)
     (λ other.
     let moved = handles_moved taker.0 parts.renderers renderers one.0 one.1 (one_more name (counts_of taker.0 parts.renderers)) is other in
     let counted =
@@ -269,14 +273,18 @@ pub handle_roots : (parts : Parts) (renderer : RendererId) (name : ℕ) → Whol
     → 0 < roots_at parts.registry name
 handle_roots parts renderer name whole due =
     let some = has_handle renderer name parts.renderers due in
-    omega (arith, some, within_handles renderer.0 name parts.renderers, whole.roots name)
+    omega (arith, some, within_handles renderer.0 name parts.renderers, whole.holders.roots name)
 
 pub whole_named : (parts : Parts) (renderer : RendererId) (name : ℕ) (text origin : List ℕ) (urls : Urls) → Whole parts
     → handle_refusal renderer name parts.renderers ≡ None → url_at text parts.urls ≡ None
     → urls ≡ with_url text (record { blob = name; owner = renderer; origin = origin }) parts.urls
+    → Comes text (record { blob = name; owner = renderer; origin = origin }) parts.urls urls
     → Whole (with_line (record parts { registry = changed parts.registry name held_more; urls = urls }))
-whole_named parts renderer name text origin urls whole due free is =
-    whole_held parts parts.renderers urls parts.readers name whole whole.living whole.readers whole.opened (handle_roots parts renderer name whole due)
+whole_named parts renderer name text origin urls whole due free is comes =
+    whole_held parts parts.renderers urls parts.readers name whole whole.holders.living whole.holders.readers whole.holders.opened
+    (owned_made parts.renderers text (record { blob = name; owner = renderer; origin = origin }) parts.urls urls parts.readers comes
+    (handle_owner renderer name parts.renderers due) whole.holders.owned)
+    (handle_roots parts renderer name whole due)
     (λ other.
     let more = urls_with text (record { blob = name; owner = renderer; origin = origin }) parts.urls free other in
     let same = ap (λ (list : Urls). urls_of other list) is in
@@ -295,12 +303,13 @@ pub url_roots : (parts : Parts) (text : List ℕ) (url : Url) → Whole parts �
 url_roots parts text url whole there =
     let less = urls_without text url parts.urls there url.blob in
     let one = ap (λ (b : Bool). cond {A = ℕ} b 1 0) (eq-eqb url.blob url.blob refl) in
-    omega (arith, less, one, whole.roots url.blob)
+    omega (arith, less, one, whole.holders.roots url.blob)
 
 pub whole_unnamed : (parts : Parts) (text : List ℕ) (url : Url) (urls : Urls) → Whole parts → url_at text parts.urls ≡ Some url
-    → urls ≡ without text parts.urls → Whole (record parts { registry = changed parts.registry url.blob held_less; urls = urls })
-whole_unnamed parts text url urls whole there is =
-    whole_let_go parts parts.renderers urls parts.readers url.blob whole whole.living whole.readers whole.opened 1
+    → urls ≡ without text parts.urls → Goes text parts.urls urls → Whole (record parts { registry = changed parts.registry url.blob held_less; urls = urls })
+whole_unnamed parts text url urls whole there is goes =
+    whole_let_go parts parts.renderers urls parts.readers url.blob whole whole.holders.living whole.holders.readers whole.holders.opened
+    (owned_unmade parts.renderers text parts.urls urls parts.readers goes whole.holders.owned) 1
     (λ other.
     let less = urls_without text url parts.urls there other in
     let same = ap (λ (list : Urls). urls_of other list) is in
@@ -312,15 +321,16 @@ reader_roots parts number reader readers whole there closes =
     let less = closes.reading reader.blob in
     let one = ap (λ (b : Bool). cond {A = ℕ} b 1 0) (eq-eqb reader.blob reader.blob refl) in
     let gone = ap (λ (held : Option OpenReader). option_map_or (λ (each : OpenReader). cond {A = ℕ} (each.blob == reader.blob) 1 0) held 0) there in
-    omega (arith, less, one, gone, whole.roots reader.blob)
+    omega (arith, less, one, gone, whole.holders.roots reader.blob)
 
 pub whole_closed : (parts : Parts) (number : ℕ) (reader : OpenReader) (readers : Open) → Whole parts → reader_at number parts.readers ≡ Some reader
     → Closes number parts.readers readers → Whole (record parts { registry = changed parts.registry reader.blob held_less; readers = readers })
 whole_closed parts number reader readers whole there closes =
-    whole_let_go parts parts.renderers parts.urls readers reader.blob whole whole.living
+    whole_let_go parts parts.renderers parts.urls readers reader.blob whole whole.holders.living
     (λ other. subst (λ (held : Option OpenReader). IfSome held (IsOpen parts.registry)) (sym (closes.each other))
-    (by other (number == other) (whole.readers other)))
-    (let fewer = closes.many in omega (arith, fewer, whole.opened)) 1
+    (by other (number == other) (whole.holders.readers other)))
+    (let fewer = closes.many in omega (arith, fewer, whole.holders.opened))
+    (owned_closed parts.renderers parts.urls number parts.readers readers closes whole.holders.owned) 1
     (λ other.
     let less = closes.reading other in
     let gone = ap (λ (held : Option OpenReader). option_map_or (λ (each : OpenReader). cond {A = ℕ} (each.blob == other) 1 0) held 0) there in
@@ -334,24 +344,4 @@ whole_closed parts number reader readers whole there closes =
 -- ---- files
 
 pub whole_filed : (parts : Parts) (files : List (List ℕ × FileNote)) → Whole parts → Whole (record parts { files = files })
-whole_filed parts files whole = record {
-  charged = whole.charged;
-  items = whole.items;
-  ranges = whole.ranges;
-  views = whole.views;
-  pages = whole.pages;
-  job = whole.job;
-  order = whole.order;
-  rows = whole.rows;
-  awaited = whole.awaited;
-  unheld = whole.unheld;
-  waits = whole.waits;
-  weight = whole.weight;
-  light = whole.light;
-  weighed = whole.weighed;
-  living = whole.living;
-  roots = whole.roots;
-  few = whole.few;
-  readers = whole.readers;
-  opened = whole.opened;
-}
+whole_filed parts files whole = record { stored = whole.stored; blobs = whole.blobs; holders = whole.holders }

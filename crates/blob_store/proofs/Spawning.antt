@@ -15,6 +15,7 @@ use Rattle.renderer_table.specs.declared.living.Living.{Living}
 use Rattle.blob_store.specs.declared.parts.Parts.{Parts}
 use Rattle.blob_store.specs.Roots.{handles_of}
 use Rattle.blob_store.specs.Whole.{Whole}
+use Rattle.blob_store.proofs.Owning.{owned_spawned}
 
 -- an entry that comes adds what it weighs
 sum_inserted : {X : Type 0} (f : X → ℕ) (k : ℕ) (v : X) (es : List (ℕ × X)) → lookup (is_at (nat_cmp k)) es ≡ None
@@ -37,30 +38,21 @@ unborn (Some one) e = cc e
 pub whole_spawned : (parts : Parts) (id : ℕ) (origin : List ℕ) (renderers : Table) → Whole parts → was_spawned id parts.renderers ≡ false
     → renderers ≡ spawned_in id origin parts.renderers → Spawns id origin parts.renderers renderers → Whole (record parts { renderers = renderers })
 whole_spawned parts id origin renderers whole fresh is spawns = record {
-  charged = whole.charged;
-  items = whole.items;
-  ranges = whole.ranges;
-  views = whole.views;
-  pages = whole.pages;
-  job = whole.job;
-  order = whole.order;
-  rows = whole.rows;
-  awaited = whole.awaited;
-  unheld = whole.unheld;
-  waits = whole.waits;
-  weight = whole.weight;
-  light = whole.light;
-  weighed = whole.weighed;
-  living = living;
-  roots = λ name. let same = handles name in omega (arith, whole.roots name, same);
-  few = whole.few;
-  readers = whole.readers;
-  opened = whole.opened;
+  stored = whole.stored;
+  blobs = whole.blobs;
+  holders = record {
+    living = living;
+    roots = λ name. let same = handles name in omega (arith, whole.holders.roots name, same);
+    few = whole.holders.few;
+    readers = whole.holders.readers;
+    owned = owned_spawned id origin parts.renderers renderers parts.urls parts.readers spawns whole.holders.owned;
+    opened = whole.holders.opened;
+  };
 }
   where
     handles : (name : ℕ) → handles_of name renderers ≡ handles_of name parts.renderers
     handles name =
-        let none = unborn (living_of id parts.renderers) (whole.living id fresh) in
+        let none = unborn (living_of id parts.renderers) (whole.holders.living id fresh) in
         let weight : Living → ℕ = λ (one : Living). count_on name one.counts in
         let sums = sum_inserted weight id (record { origin = origin; counts = [] }) parts.renderers.living none in
         let now = ap (λ (table : Table). sum_by weight (values_of table.living)) is in
@@ -72,4 +64,4 @@ whole_spawned parts id origin renderers whole fresh is spawns = record {
         by : (b c : Bool) → was_spawned number parts.renderers ≡ c → (b || c) ≡ false → cond b (Some origin) (origin_at number parts.renderers) ≡ None
         by true c at e = cc e
         by false true at e = cc e
-        by false false at e = whole.living number at
+        by false false at e = whole.holders.living number at

@@ -18,7 +18,7 @@ use Rattle.blob_entries.proofs.Holdings.{in_cons, on_held}
 use Rattle.blob_registry.specs.Sweeps.{let_go, swept, Sweeping}
 use Rattle.blob_store.specs.declared.row.Row.{Row}
 use Rattle.store_laws.specs.Weights.{memory_weight, piece_weight, reserved_weight}
-use Rattle.blob_store.specs.Whole.{Charged}
+use Rattle.blob_store.specs.Blobs.{Charged}
 
 on_left : (slot : ℕ) (lives : Bool) (held : Option Entry) → on_held slot (left lives held) + views_on slot (gone_views lives held) ≡ on_held slot held
 on_left slot true None = refl

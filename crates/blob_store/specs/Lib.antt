@@ -1,8 +1,10 @@
-pub mod Freed
 pub mod Owners
 pub mod Readers
 pub mod Rows
 pub mod Roots
+pub mod Stored
+pub mod Blobs
+pub mod Holders
 pub mod Whole
 pub mod Seen
 pub mod Says
@@ -10,3 +12,4 @@ pub mod New
 pub mod Begins
 pub mod Gone
 pub mod Openings
+pub mod Departing

@@ -3,7 +3,7 @@ ghost use Rattle.std.specs.Prelude.{◌≡◌, ◌+◌, ◌-◌, ◌≤◌, List
 ghost use Rattle.data_handles.specs.Boxes.{of_table};
 ghost use Rattle.page_disk.specs.declared.change.Change.{Change};
 ghost use Rattle.page_files.specs.Files.{Agrees};
-ghost use Rattle.blob_store.specs.Freed.{released_by, AreReleasable};
+ghost use Rattle.store_laws.specs.Releasing.{released_by, AreReleasable};
 ghost use Rattle.store_laws.specs.LetGo.{left_by, let_go_by};
 ghost use Rattle.store_laws.specs.Weights.{memory_weight, piece_weight, reserved_weight};
 

@@ -4,6 +4,7 @@ mod cancel;
 mod count;
 mod die;
 mod drop;
+mod end;
 mod fetch;
 mod file;
 mod gone;

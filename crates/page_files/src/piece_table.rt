@@ -93,7 +93,7 @@ impl PieceTable {
         ensures long { AllByRecursion HasBytes self.now }
         ensures fits { bytes_of self.now < 2 ^ 64 }
     {
-        let _bytes = self.bytes;
+        let _bytes = self.bytes; // says that their sum is below 2^64
         let mut list = Vec::new(alloc);
         for (piece, entry) in self.places.iter() {
             if entry.is_in {

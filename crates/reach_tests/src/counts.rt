@@ -19,7 +19,7 @@ fn put_all(alloc: Global, registry: &mut Registry, shares: &mut Shares) -> Resul
     requires { registry.old ≡ book_of [] [] }
 {
     put_paged(alloc, registry, shares, PieceNo(9_000))?;
-    let _endings = registry.finish_pass(shares)?;
+    let _endings = registry.finish_pass(shares)?; // the one is done
     put_own(alloc, registry, 2, PieceNo(4), Status::PendingTransport)?;
     put_own(alloc, registry, 3, PieceNo(6), Status::PendingQuota)?;
     put_broken(alloc, registry, 4)
@@ -57,7 +57,7 @@ fn with_page<D: PageDisk>(alloc: Global, disk: &mut D) -> Result<PageFiles, Fail
     let slot = shares.add(Item::Reserved { piece, len: 4 })?;
     let mut files = PageFiles::new(alloc, 100)?;
     files.reserve(7);
-    let _page = files.store_piece(slot, b"page", &mut shares, disk)?;
+    let _page = files.store_piece(slot, b"page", &mut shares, disk)?; // page 0
     Ok(files)
 }
 

@@ -57,7 +57,7 @@ fn time_sweep(
     requires { HasNoViews registry.old }
 {
     let start = Instant::now(rt)?;
-    let _swept = sweep(registry, shares)?;
+    let _swept = sweep(registry, shares)?; // how many went isn't shown
     let took = start.elapsed(rt)?.as_micros();
     if registry.len() > 0 {
         println!(rt; "{} left", registry.len())?;

@@ -2,7 +2,7 @@
 use Rattle.std.proofs.Common.{◌≡◌, ℕ, zero, suc, ◌+◌, ◌-◌, ◌==◌, ◌&&◌, ◌||◌, not, Bool, true, false, List, [], ◌∷◌, ◌++◌, map, length, refl, ap, subst, sym, ◌∙◌, Option, Some, None, cond, set, arith}
 use Rattle.std.specs.Prelude.{bytes_eq, find}
 use Rattle.std.specs.Option.{option_map, option_map_or}
-use Rattle.std.specs.List.{AllByRecursion, list_any}
+use Rattle.std.specs.List.{list_any}
 use Rattle.std.specs.Ordering.{nat_cmp}
 use Rattle.std.specs.BTreeMap.{is_at}
 use Rattle.std.proofs.lemmas.Bool.{eqb-true, or_parts}
@@ -328,6 +328,7 @@ module _ (s : Session) (h : History) (stands : ℕ → Bool) (parts : Parts) (to
       readers_stand = between.tables.readers_stand;
     };
     handles = between.handles;
+    claims = between.claims;
     disk_stands = between.disk_stands;
     same_lines = ap (λ (n : ℕ). n + 1) between.same_lines;
     same_pieces = between.same_pieces;
@@ -348,6 +349,7 @@ module _ (s : Session) (h : History) (stands : ℕ → Bool) (parts : Parts) (to
       readers_stand = between.tables.readers_stand;
     };
     handles = between.handles;
+    claims = between.claims;
     disk_stands = between.disk_stands;
     same_lines = ap (λ (n : ℕ). n + 1) between.same_lines;
     same_pieces = between.same_pieces;
@@ -369,6 +371,7 @@ module _ (s : Session) (h : History) (stands : ℕ → Bool) (parts : Parts) (to
       readers_stand = between.tables.readers_stand;
     };
     handles = between.handles;
+    claims = between.claims;
     disk_stands = between.disk_stands;
     same_lines = ap (λ (n : ℕ). n + 1) between.same_lines;
     same_pieces = between.same_pieces;
@@ -392,6 +395,7 @@ module _ (s : Session) (h : History) (stands : ℕ → Bool) (parts : Parts) (to
       readers_stand = between.tables.readers_stand;
     };
     handles = between.handles;
+    claims = between.claims;
     disk_stands = between.disk_stands;
     same_lines = ap (λ (n : ℕ). n + 1) between.same_lines;
     same_pieces = between.same_pieces;

@@ -28,7 +28,7 @@ use Rattle.store_laws.specs.PageFiles.{PageFacts, PagesStand}
 use Rattle.store_laws.specs.Recipes.{EntriesStand}
 use Rattle.store_laws.specs.Rows.{bare, row_of, Row}
 use Rattle.store_laws.specs.Stands.{lines, Between, ContentsStand, Parts}
-use Rattle.store_laws.specs.Tables.{HandlesStand, TablesStand}
+use Rattle.store_laws.specs.Tables.{AreClaimed, HandlesStand, TablesStand}
 use Rattle.store_laws.specs.Uses.{facts_of, order_of, own_pieces, page_facts_of}
 use Rattle.store_laws.proofs.Unmarked.{unmarked_right}
 
@@ -103,6 +103,7 @@ module _ (s : Session) (h later : History) (same : notions s later ≡ notions s
     contents = contents_alike;
     tables = tables;
     handles = over (λ (n : Notions). HandlesStand s.outside.slots (λ (k : ℕ). is_in k n.claimed) (holds_slot parts.shares) table) between.handles;
+    claims = over (λ (n : Notions). AreClaimed s.outside.slots (λ (k : ℕ). is_in k n.claimed) (holds_slot parts.shares)) between.claims;
     disk_stands = over (λ (n : Notions). option_map (map change_as) told ≡ (if s.outside.disk_tells then Some n.changes else None)) between.disk_stands;
     same_lines = ap (λ (n : ℕ). n + 1) between.same_lines ∙ ap (λ (n : ℕ). n + 1) (sym one_more);
     same_pieces = over (λ (n : Notions). parts.pieces ≡ length n.pieces) between.same_pieces;

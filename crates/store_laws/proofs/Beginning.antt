@@ -1,12 +1,13 @@
 -- A store that has heard nothing stands for what comes after the line of the limits.
-use Rattle.std.proofs.Common.{◌≡◌, ℕ, Bool, false, List, [], Option, None, refl}
+use Rattle.std.proofs.Common.{ℕ, false, List, Option, refl}
 use Rattle.data_handles.specs.Table.{Table as HandleTable}
 use Rattle.page_disk.specs.declared.change.Change.{Change}
 use Rattle.blob_model.specs.History.{start}
 use Rattle.blob_model.specs.Live.{is_live}
 use Rattle.blob_model.specs.Session.{Session, page_limit}
+use Rattle.blob_model.proofs.Lists.{false_true}
 use Rattle.store_laws.specs.LineLaws.{counted, new_parts}
-use Rattle.store_laws.specs.Stands.{Between, ContentsStand, Parts, Stands}
+use Rattle.store_laws.specs.Stands.{ContentsStand, Parts, Stands}
 use Rattle.store_laws.specs.Tables.{DiskStands, HandlesStand}
 
 module _ (s : Session) where
@@ -51,6 +52,7 @@ module _ (s : Session) where
         readers_stand = record { each = λ number. refl; many = refl };
       };
       handles = handles;
+      claims = λ k is. absurd (false_true is);
       disk_stands = disk;
       same_lines = refl;
       same_pieces = refl;

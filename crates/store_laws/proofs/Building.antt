@@ -1,5 +1,5 @@
 -- A line that builds adds its blob, and the parts stand for the history with it.
-use Rattle.std.proofs.Common.{◌≡◌, ℕ, ◌+◌, ◌==◌, ◌||◌, Bool, true, false, List, [], ◌∷◌, ◌++◌, length, refl, ap, subst, sym, ◌∙◌, Option, Some, None, cond, arith, ℤ}
+use Rattle.std.proofs.Common.{◌≡◌, ℕ, ◌+◌, ◌==◌, Bool, true, false, List, [], ◌∷◌, ◌++◌, length, refl, ap, subst, sym, ◌∙◌, Option, Some, None, cond, arith, ℤ}
 use Rattle.std.specs.Prelude.{is_some, sum_by, IfSome, IsSome}
 use Rattle.std.specs.Option.{option_map_or}
 use Rattle.std.specs.List.{AllByRecursion, list_any}
@@ -8,21 +8,14 @@ use Rattle.blob_words.specs.declared.number.RendererId.{RendererId}
 use Rattle.blob_words.specs.declared.status.Status.{Status}
 use Rattle.session_script.specs.declared.event.Event.TheVariants as events
 use Rattle.session_script.specs.declared.event.Part.{Part}
-use Rattle.answer_text.specs.declared.group.Group.{Group}
-use Rattle.data_handles.specs.Table.{Table as HandleTable}
-use Rattle.page_disk.specs.declared.change.Change.{Change}
-use Rattle.renderer_table.specs.Table.{Table}
-use Rattle.item_shares.specs.declared.shares.Share.{Share}
-use Rattle.blob_entries.specs.declared.entry.Entry.{Entry}
 use Rattle.blob_model.specs.Builds.{Build, built, builds, plan_told, slice_parts}
 use Rattle.blob_model.specs.Construct.{build_answer_by, line_status, line_tests}
 use Rattle.blob_model.specs.History.{History, heard, history_from, start}
 use Rattle.blob_model.specs.Jobs.{Job, in_flight}
-use Rattle.blob_model.specs.Legal.{IsLegalFrom}
 use Rattle.blob_model.specs.Order.{named}
 use Rattle.blob_model.specs.Pages.{Page, lists, pages}
 use Rattle.blob_model.specs.Pieces.{pieces, spans_of}
-use Rattle.blob_model.specs.Refusals.{claimed, is_in, piece_total, refusal, weight_total}
+use Rattle.blob_model.specs.Refusals.{piece_total}
 use Rattle.blob_model.specs.Session.{Session, page_limit}
 use Rattle.blob_model.specs.Standing.{ended, is_done, is_done_status}
 use Rattle.blob_model.proofs.Lists.{all_members, false_true, for_each, or_first, or_second, sum_more}
@@ -34,17 +27,10 @@ use Rattle.blob_model.proofs.legal.Causes.{IsCaused}
 use Rattle.blob_model.proofs.legal.Steps.{caused_from}
 use Rattle.blob_model.proofs.legal.Totals.{pieces_counted}
 use Rattle.blob_model.proofs.settled.Endings.{some_that}
-use Rattle.store_laws.specs.BuildLaws.{grown_parts, made, Adds, AreAdded, AreListed, AreThere, BuildsAdd, GrownStands, IsEntered, ListedAreThere}
+use Rattle.store_laws.specs.BuildLaws.{Adds, AreListed, AreThere, BuildsAdd, GrownStands, ListedAreThere}
 use Rattle.store_laws.specs.Cells.{piece_in}
-use Rattle.store_laws.specs.Items.{holds_slot}
-use Rattle.store_laws.specs.LineLaws.{AreUnmarked, counted}
 use Rattle.store_laws.specs.PageFiles.{writes}
 use Rattle.store_laws.specs.PageLaws.{numbered_pages}
-use Rattle.store_laws.specs.ReachLaws.{IsAtRest}
-use Rattle.store_laws.specs.Rows.{Row}
-use Rattle.store_laws.specs.Stands.{Between, Parts, lines}
-use Rattle.store_laws.specs.Tables.{DiskStands, HandlesStand, TablesStand}
-use Rattle.store_laws.specs.Uses.{facts_of}
 use Rattle.store_laws.proofs.Growing.{contents_grow}
 use Rattle.store_laws.proofs.PageNumbers.{pages_in_turn}
 
@@ -198,7 +184,7 @@ builds_add = record {
 
 pub grown_stands : GrownStands
 grown_stands s h stands parts told table unmarked between rest listed later new adds one_line entry row now come entered renderers tables later_table handles
-    disk used =
+    claims disk used =
     record {
       same_limits = between.same_limits;
       same_version = between.same_version;
@@ -206,6 +192,7 @@ grown_stands s h stands parts told table unmarked between rest listed later new 
           new adds entry row now come entered used;
       tables = tables;
       handles = handles;
+      claims = claims;
       disk_stands = disk;
       same_lines = ap (λ (n : ℕ). n + 1) between.same_lines ∙ ap (λ (n : ℕ). n + 1) (sym one_line);
       same_pieces =

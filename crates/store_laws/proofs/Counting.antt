@@ -93,6 +93,7 @@ module _ (s : Session) (h : History) (parts : Parts) (told : Option (List Change
       readers_stand = between.tables.readers_stand;
     };
     handles = between.handles;
+    claims = between.claims;
     disk_stands = between.disk_stands;
     same_lines = ap (λ (n : ℕ). n + 1) between.same_lines;
     same_pieces = between.same_pieces;

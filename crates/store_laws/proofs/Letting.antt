@@ -287,11 +287,11 @@ job_fold (item ∷ freed) p files flying e =
 abbrev pub any_in : (Item → Bool) → List (Option Share) → Bool
 any_in test shares = list_any (λ (held : Option Share). option_map_or (λ (share : Share). test share.item) held false) shares
 
-abbrev one_if : (Item → Bool) → Item → ℕ
+abbrev pub one_if : (Item → Bool) → Item → ℕ
 one_if test item = cond (test item) 1 0
 
 module _ (test : Item → Bool) where
-  some_in : (shares : List (Option Share)) → any_in test shares ≡ true → 0 < weights (one_if test) shares
+  pub some_in : (shares : List (Option Share)) → any_in test shares ≡ true → 0 < weights (one_if test) shares
   some_in [] e = absurd (false_true e)
   some_in (None ∷ shares) e =
       let sum = sum_by-cons (held_weight (one_if test)) None shares in let rest = some_in shares e in omega (arith, sum, rest)
@@ -305,7 +305,7 @@ module _ (test : Item → Bool) where
       go false at e rest =
           let sum = sum_by-cons (held_weight (one_if test)) (Some share) shares in let more = rest e in omega (arith, sum, more)
 
-  none_in : (shares : List (Option Share)) → any_in test shares ≡ false → weights (one_if test) shares ≡ 0
+  pub none_in : (shares : List (Option Share)) → any_in test shares ≡ false → weights (one_if test) shares ≡ 0
   none_in [] e = refl
   none_in (None ∷ shares) e =
       let sum = sum_by-cons (held_weight (one_if test)) None shares in let rest = none_in shares e in omega (arith, sum, rest)
@@ -319,7 +319,7 @@ module _ (test : Item → Bool) where
           let own = ap {B = ℕ} (λ (b : Bool). cond b 1 0) at in
           let more = rest e in omega (arith, sum, own, more)
 
-  some_of : (items : List Item) → list_any test items ≡ true → 0 < sum_by (one_if test) items
+  pub some_of : (items : List Item) → list_any test items ≡ true → 0 < sum_by (one_if test) items
   some_of [] e = absurd (false_true e)
   some_of (item ∷ items) e = go (test item) refl e (some_of items)
     where
@@ -329,7 +329,7 @@ module _ (test : Item → Bool) where
           let sum = sum_by-cons (one_if test) item items in let own = ap {B = ℕ} (λ (b : Bool). cond b 1 0) at in omega (arith, sum, own)
       go false at e rest = let sum = sum_by-cons (one_if test) item items in let more = rest e in omega (arith, sum, more)
 
-  none_of : (items : List Item) → list_any test items ≡ false → sum_by (one_if test) items ≡ 0
+  pub none_of : (items : List Item) → list_any test items ≡ false → sum_by (one_if test) items ≡ 0
   none_of [] e = refl
   none_of (item ∷ items) e = go (test item) refl e (none_of items)
     where

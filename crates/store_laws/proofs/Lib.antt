@@ -29,6 +29,7 @@ pub mod UrlOwners
 pub mod Counting
 pub mod Leaving
 pub mod Letting
+pub mod Releasing
 pub mod OrderLeft
 pub mod Queueing
 pub mod SweptStand
@@ -37,6 +38,7 @@ pub mod Rerooted
 pub mod Apart
 pub mod Tables
 pub mod Dying
+pub mod Finishing
 pub mod TableLines
 pub mod ApartHistories
 pub mod TableRefusals

@@ -133,7 +133,8 @@ filter_append : (p : ℕ × ℕ → Bool) (xs ys : List (ℕ × ℕ)) → filter
 filter_append p [] ys = refl
 filter_append p (x ∷ xs) ys = go (p x) (filter_append p xs ys)
   where
-    go : (b : Bool) → filter p (xs ++ ys) ≡ filter p xs ++ filter p ys → cond b (x ∷ filter p (xs ++ ys)) (filter p (xs ++ ys)) ≡ cond b (x ∷ filter p xs) (filter p xs) ++ filter p ys
+    go : (b : Bool) → filter p (xs ++ ys) ≡ filter p xs ++ filter p ys
+        → cond b (x ∷ filter p (xs ++ ys)) (filter p (xs ++ ys)) ≡ cond b (x ∷ filter p xs) (filter p xs) ++ filter p ys
     go true rest = ap (λ (more : List (ℕ × ℕ)). x ∷ more) rest
     go false rest = rest
 

@@ -34,7 +34,8 @@ use Rattle.store_laws.specs.Items.{Facts, IsPlaced, ItemsStand, piece_at, piece_
 use Rattle.store_laws.specs.Outlines.{Outline, IsMarkedRight, outline, outline_of, status_now}
 use Rattle.store_laws.specs.Passing.{after_pass, rows_settled, settled_row}
 use Rattle.store_laws.specs.Recipes.{RowsBeside}
-use Rattle.store_laws.specs.Rows.{AreWritten, Coming, Row, bare, came_of, coming_by, coming_of, gathered_of, gathering, pieces_before, row_of, settled, waiting, writing}
+use Rattle.store_laws.specs.Rows.{AreWritten, Coming, Row, bare, came_of, coming_by, coming_of, gathered_of}
+use Rattle.store_laws.specs.Rows.{gathering, pieces_before, row_of, settled, waiting, writing}
 use Rattle.store_laws.proofs.PassKeeps.{endings_keep, unfinished_before, unfinished_same}
 
 abbrev Entries : Type 0

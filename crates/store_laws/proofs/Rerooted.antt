@@ -104,6 +104,7 @@ between_rerooted s h stands parts told table book same between = record {
   };
   tables = between.tables;
   handles = between.handles;
+  claims = between.claims;
   disk_stands = between.disk_stands;
   same_lines = between.same_lines;
   same_pieces = between.same_pieces;

@@ -1,15 +1,10 @@
 -- What a sweep leaves of the contents stands behind the drops.
-use Rattle.std.proofs.Common.{◌≡◌, ℕ, ◌+◌, Bool, true, List, [], map, reverse, refl, ap, subst, sym, ◌∙◌, Option}
+use Rattle.std.proofs.Common.{◌≡◌, ℕ, Bool, true, List, map, reverse, refl, subst, sym, ◌∙◌, Option}
 use Rattle.std.specs.Prelude.{filter, fold}
 use Rattle.answer_text.specs.declared.answer.Answer.TheVariants as answers
-use Rattle.item_shares.specs.Shares.{AreViewed}
 use Rattle.item_shares.specs.declared.item.Item.{Item}
 use Rattle.item_shares.specs.declared.shares.Share.{Share}
-use Rattle.blob_items.specs.declared.view.View.{View}
 use Rattle.blob_entries.specs.Book.{Book, book_of}
-use Rattle.blob_entries.specs.Counts.{count_at}
-use Rattle.blob_entries.specs.Holdings.{views_in}
-use Rattle.blob_entries.specs.Leaving.{LetsGo}
 use Rattle.blob_entries.specs.declared.entry.Entry.{Entry}
 use Rattle.blob_registry.specs.Sweeps.{swept}
 use Rattle.page_files.specs.Files.{Files}
@@ -26,7 +21,7 @@ use Rattle.registry_laws.proofs.Drops.{goes}
 use Rattle.registry_laws.proofs.Left.{drops_keep}
 use Rattle.store_laws.specs.LetGo.{left_by, let_go_by, AreFreed}
 use Rattle.store_laws.specs.PageFiles.{PageFacts, PagesStand}
-use Rattle.store_laws.specs.Rows.{Row, pins}
+use Rattle.store_laws.specs.Rows.{Row}
 use Rattle.store_laws.specs.Settling.{after_drops}
 use Rattle.store_laws.specs.Stands.{ContentsStand}
 use Rattle.store_laws.specs.SweepLaws.{entries_left, rows_left, AreKept, EntriesAre}
@@ -35,13 +30,13 @@ use Rattle.store_laws.specs.Uses.{page_facts_of}
 use Rattle.store_laws.proofs.Leaving.{sweep_leaves_live}
 use Rattle.store_laws.proofs.Letting.{pages_let_go}
 use Rattle.store_laws.proofs.OrderLeft.{order_let_go}
-use Rattle.store_laws.proofs.Queueing.{items_let_go, queue_let_go}
+use Rattle.store_laws.proofs.Queueing.{queue_let_go}
 
 module _ (s : Session) (h : History) (stands : ℕ → Bool) (book : Book) (shares : List (Option Share)) (rows : List (Option Row)) (quota : Queue)
     (files : Files) (order : List (ℕ × ℕ)) (contents : ContentsStand s h stands book shares rows quota files order) (tell : Describes s h book)
-    (covers : (name : ℕ) → is_live (page_limit s) h name ≡ true → stands name ≡ true) (views : List View) (later : List (Option Share))
-    (freed : List Item) (lets : LetsGo views shares later [] freed) (viewed : AreViewed later)
-    (counts : (slot : ℕ) → count_at later slot ≡ views_in (swept book.names 0 book.entries) slot + pins slot rows) where
+    (covers : (name : ℕ) → is_live (page_limit s) h name ≡ true → stands name ≡ true) (later : List (Option Share)) (freed : List Item)
+    (freed_so : AreFreed shares later freed)
+    (kept_so : AreKept (swept book.names 0 book.entries) (rows_left (is_live (page_limit s) h) (builds (page_limit s) h) rows) shares later) where
   abbrev g : History
   g = after_drops s h
 
@@ -63,13 +58,8 @@ module _ (s : Session) (h : History) (stands : ℕ → Bool) (book : Book) (shar
   live : swept book.names 0 book.entries ≡ left
   live = sweep_leaves_live.live_left s h book tell
 
-  freed_so : AreFreed shares later freed
-  freed_so = (items_let_go views shares later freed lets viewed).freed_so
-
   kept : AreKept left rows_now shares later
-  kept =
-      (items_let_go views shares later freed lets viewed).kept_so alive list_now left rows
-      (λ slot. counts slot ∙ ap (λ (entries : List (Option Entry)). views_in entries slot + pins slot rows) live)
+  kept = subst (λ (entries : List (Option Entry)). AreKept entries rows_now shares later) live kept_so
 
   entries : EntriesAre s g alive (book_of book.names left) later rows_now
   entries = sweep_leaves_live.left_stand s h stands book shares rows quota files order contents tell covers later kept
@@ -106,9 +96,9 @@ module _ (s : Session) (h : History) (stands : ℕ → Bool) (book : Book) (shar
   }
 
 pub swept_stands : SweptStands
-swept_stands s h stands book shares rows quota files order contents tell covers views later freed lets viewed counts names told used =
+swept_stands s h stands book shares rows quota files order contents tell covers later freed freed_so kept names told used =
     subst (λ (entries : List (Option Entry)). ContentsStand s (after_drops s h) (is_live (page_limit s) h) (book_of book.names entries) later
     (rows_left (is_live (page_limit s) h) (builds (page_limit s) h) rows) (queue_left quota names used) (fold let_go_by files freed)
     (fold left_by order freed))
-    (sym (live s h stands book shares rows quota files order contents tell covers views later freed lets viewed counts))
-    (contents_left s h stands book shares rows quota files order contents tell covers views later freed lets viewed counts names told used)
+    (sym (live s h stands book shares rows quota files order contents tell covers later freed freed_so kept))
+    (contents_left s h stands book shares rows quota files order contents tell covers later freed freed_so kept names told used)

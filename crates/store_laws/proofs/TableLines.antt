@@ -1,6 +1,7 @@
 -- The law on lines that change tables and roots.
 use Rattle.store_laws.specs.TableLaws.{TableLinesStand}
 use Rattle.store_laws.proofs.Dying.{dying}
+use Rattle.store_laws.proofs.Finishing.{finishing}
 use Rattle.store_laws.proofs.Tables.{closing, forgetting, making_urls, passing, recording, revoking, revoking_nothing}
 
 pub table_lines_stand : TableLinesStand
@@ -14,4 +15,5 @@ table_lines_stand = record {
   forgetting = forgetting;
   closing = closing;
   dying = dying;
+  finishing = finishing;
 }

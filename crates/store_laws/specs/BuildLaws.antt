@@ -41,7 +41,7 @@ use Rattle.store_laws.specs.ReachLaws.{IsAtRest}
 use Rattle.store_laws.specs.Recipes.{IsEntryFor}
 use Rattle.store_laws.specs.Rows.{AreWritten, Row, bare, row_of}
 use Rattle.store_laws.specs.Stands.{Between, ContentsStand, Parts, lines}
-use Rattle.store_laws.specs.Tables.{DiskStands, HandlesStand, TablesStand}
+use Rattle.store_laws.specs.Tables.{AreClaimed, DiskStands, HandlesStand, TablesStand}
 use Rattle.store_laws.specs.Uses.{facts_of, own_pieces, page_facts_of}
 use Rattle.store_laws.specs.Weights.{reserved_weight}
 
@@ -156,5 +156,6 @@ GrownStands =
     → lines later ≡ lines h + 1 → (entry : Entry) (row : Row) (now : List (Option Share))
     → AreAdded (pieces (page_limit s) later) (facts_of s later) (length (pieces (page_limit s) h)) parts.shares now → IsEntered s later new now entry row
     → (renderers : Table) → TablesStand s later renderers parts.urls parts.files parts.readers → (later_table : HandleTable)
-    → HandlesStand s.outside.slots (λ (k : ℕ). is_in k (claimed s later)) (holds_slot now) later_table → DiskStands s later told → (used : ℕ)
+    → HandlesStand s.outside.slots (λ (k : ℕ). is_in k (claimed s later)) (holds_slot now) later_table
+    → AreClaimed s.outside.slots (λ (k : ℕ). is_in k (claimed s later)) (holds_slot now) → DiskStands s later told → (used : ℕ)
     → Between s later (λ (name : ℕ). (new.name == name) || stands name) (counted (grown_parts s later new entry row now renderers used parts)) told later_table

@@ -19,6 +19,7 @@ pub mod LineLaws
 pub mod CountLaws
 pub mod SweepLaws
 pub mod LetGo
+pub mod Releasing
 pub mod Swept
 pub mod Roots
 pub mod Apart

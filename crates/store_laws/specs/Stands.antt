@@ -39,7 +39,7 @@ use Rattle.store_laws.specs.Outlines.{IsMarkedRight, outlines, outlines_of}
 use Rattle.store_laws.specs.PageFiles.{PagesStand}
 use Rattle.store_laws.specs.Recipes.{EntriesStand}
 use Rattle.store_laws.specs.Rows.{Row, bare, rows_of}
-use Rattle.store_laws.specs.Tables.{DiskStands, HandlesStand, TablesStand}
+use Rattle.store_laws.specs.Tables.{AreClaimed, DiskStands, HandlesStand, TablesStand}
 use Rattle.store_laws.specs.Uses.{facts_of, held_pieces, order_of, own_pieces, page_facts_of}
 use Rattle.std.specs.Option.{option_map}
 
@@ -90,6 +90,7 @@ pub record Between (s : Session) (h : History) (stands : ℕ → Bool) (parts : 
   pub contents : ContentsStand s h stands parts.book parts.shares parts.rows parts.quota parts.pages parts.recent
   pub tables : TablesStand s h parts.renderers parts.urls parts.files parts.readers
   pub handles : HandlesStand s.outside.slots (λ (k : ℕ). is_in k (claimed s h)) (holds_slot parts.shares) table
+  pub claims : AreClaimed s.outside.slots (λ (k : ℕ). is_in k (claimed s h)) (holds_slot parts.shares)
   pub disk_stands : DiskStands s h told
   pub same_lines : parts.lines ≡ lines h + 1
   pub same_pieces : parts.pieces ≡ length (pieces (page_limit s) h)

@@ -1,5 +1,5 @@
 -- What lines leave that change renderers, URLs, files and readers alone, and the roots of blobs. Own.
-use Rattle.std.specs.Prelude.{ℕ, ◌≡◌, ◌+◌, ◌==◌, Bool, List, length, Option, None, Some, IsSome, false, is_none, if◌then◌else◌}
+use Rattle.std.specs.Prelude.{ℕ, [], ◌≡◌, ◌+◌, ◌==◌, Bool, List, length, Option, None, Some, IsSome, false, is_none, if◌then◌else◌}
 use Rattle.std.specs.Option.{option_map_or}
 use Rattle.std.specs.Ordering.{nat_cmp}
 use Rattle.std.specs.BTreeMap.{is_at}
@@ -150,6 +150,19 @@ DieStands = WhereStanding (λ s h stands parts told table.
     → Between s (heard h (events.Die renderer) answers.Good) stands
     (counted (record parts { book = book; renderers = renderers; urls = urls; readers = readers })) told table)
 
+-- every renderer went, with its handles
+pub record AllDepart (old new : Table) : Type 0 where
+  pub counts : (id name : ℕ) → count_of id name new ≡ 0
+  pub origins : (id : ℕ) → origin_at id new ≡ None
+  pub spawned : new.spawned ≡ old.spawned
+
+-- and there is no URL and no open reader left
+abbrev pub FinishStands : Type 0
+FinishStands = WhereStanding (λ s h stands parts told table.
+    (book : Book) (renderers : Table) → AreRerooted parts.book book → AllDepart parts.renderers renderers
+    → Between s (heard h events.Finish answers.Good) stands
+    (counted (record parts { book = book; renderers = renderers; urls = []; readers = [] })) told table)
+
 -- the parts stand for the history with the line
 pub record TableLinesStand : Type 0 where
   pub passing : PassStands
@@ -160,3 +173,4 @@ pub record TableLinesStand : Type 0 where
   pub forgetting : GoneStands
   pub closing : CancelStands
   pub dying : DieStands
+  pub finishing : FinishStands

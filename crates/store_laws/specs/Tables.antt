@@ -1,5 +1,5 @@
 -- The tables beside the blobs, as a history says: renderers, URLs, files, readers, data handles, and the changes on the disk. Own.
-use Rattle.std.specs.Prelude.{ℕ, ◌≡◌, ◌==◌, ◌&&◌, Bool, not, List, map, find, length, Option, None, Some, option_and_then, slice_get, if◌then◌else◌}
+use Rattle.std.specs.Prelude.{ℕ, ◌≡◌, ◌==◌, ◌&&◌, Bool, true, not, List, map, find, length, Option, None, Some, IsSome, option_and_then, slice_get, if◌then◌else◌}
 use Rattle.std.specs.Option.{option_map}
 use Rattle.std.specs.List.{list_any}
 use Rattle.std.specs.BTreeMap.{is_at}
@@ -71,6 +71,10 @@ slot_now claimed held slot = option_map (λ (one : Slot). (claimed, (if claimed 
 
 abbrev pub HandlesStand : List Slot → (ℕ → Bool) → (ℕ → Bool) → HandleTable → Type 0
 HandlesStand slots claimed held table = (k : ℕ) → slot_seen (slot_at table k) ≡ slot_now (claimed k) (held k) (slice_get slots k)
+
+-- each item of a data handle is of one that there is and that a blob names
+abbrev pub AreClaimed : List Slot → (ℕ → Bool) → (ℕ → Bool) → Type 0
+AreClaimed slots claimed held = (k : ℕ) → held k ≡ true → (claimed k ≡ true) × IsSome (slice_get slots k)
 
 -- the disk tells the changes of the history, where it tells them
 abbrev pub told_changes : Session → History → Option (List DiskChange)

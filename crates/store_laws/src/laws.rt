@@ -9,6 +9,7 @@ ghost use Rattle.store_laws.specs.CountLaws.{TellsHowMany};
 ghost use Rattle.store_laws.specs.EntryLaws.{NewEntries, UnbuiltUnended};
 ghost use Rattle.store_laws.specs.GroupLaws.{GroupLegal, LateListsKeepLives, OwnLives};
 ghost use Rattle.store_laws.specs.LetGo.{ItemsLetGo, OrderLetGo, PagesLetGo, QueueLetGo};
+ghost use Rattle.store_laws.specs.Releasing.{HandlesLetGo};
 ghost use Rattle.store_laws.specs.LineLaws.{LinesStand, NewStands, NoneIsMarked};
 ghost use Rattle.store_laws.specs.SweepLaws.{SweepLeavesLive};
 ghost use Rattle.store_laws.specs.Passing.{EntriesPass, PassStands};
@@ -124,6 +125,12 @@ pub fn order_let_go()
 /// piece on its way, are where they were.
 pub fn items_let_go()
     ensures { ItemsLetGo }
+{}
+
+/// Where items go, no two of them of one data handle, their objects can be dropped, and the data
+/// handles stand for the items that are left.
+pub fn handles_let_go()
+    ensures { HandlesLetGo }
 {}
 
 /// The queue, without the blobs that are dropped, is that of those that wait still.

@@ -10,7 +10,7 @@ pub fn keys_differ()
 {}
 
 /// The parts stand for the history with a line that passes a handle on, makes or revokes a URL,
-/// records or forgets a file, closes a reader, or lets a renderer die.
+/// records or forgets a file, closes a reader, lets a renderer die, or is the last.
 pub fn table_lines_stand()
     ensures { TableLinesStand }
 {}

@@ -1,8 +1,10 @@
 //! The line `die`, and how a renderer's things go.
-ghost use Rattle.std.specs.Prelude.{ℕ, ◌≡◌, ◌-◌, ◌≤◌, ◌==◌, [], ◌∷◌, List, Option, IsSome, if◌then◌else◌, map};
+ghost use Rattle.std.specs.Prelude.{ℕ, ◌≡◌, ◌-◌, ◌<◌, ◌≤◌, ◌==◌, [], ◌∷◌, List, Option, IsSome, if◌then◌else◌, length, map};
 ghost use Rattle.renderer_table.specs.Table.{living_of};
 ghost use Rattle.store_laws.specs.Roots.{AreRerooted};
 ghost use Rattle.store_laws.specs.TableLaws.{Departs, ReadersLeave, UrlsLeave};
+ghost use Rattle.blob_store.specs.Departing.{Goes};
+ghost use Rattle.blob_store.specs.Holders.{IsUnlinked, IsUnread};
 ghost use Rattle.blob_store.specs.Roots.{roots_at};
 ghost use Rattle.blob_store.specs.Seen.{reader_of};
 
@@ -39,6 +41,7 @@ impl Parts {
         ensures same { AreRerooted self.old.registry self.new.registry }
         ensures readers { ReadersLeave renderer.0 (map reader_of self.old.readers)
             (map reader_of self.new.readers) }
+        ensures unread { IsUnread renderer.0 self.new.readers }
         ensures rest { self.new ≡ record self.old {
           registry = self.new.registry;
           readers = self.new.readers;
@@ -71,9 +74,12 @@ impl Parts {
     fn drop_handles(&mut self, renderer: RendererId)
         requires whole { IsWhole self.old }
         requires alive { IsSome (living_of renderer.0 self.old.renderers) }
+        requires unread { IsUnread renderer.0 self.old.readers }
+        requires unlinked { IsUnlinked renderer.0 self.old.urls }
         ensures whole { IsWhole self.new }
         ensures same { AreRerooted self.old.registry self.new.registry }
         ensures departs { Departs renderer.0 self.old.renderers self.new.renderers }
+        ensures fewer { length self.new.renderers.living < length self.old.renderers.living }
         ensures rest { self.new ≡ record self.old {
           registry = self.new.registry;
           renderers = self.new.renderers;
@@ -82,6 +88,19 @@ impl Parts {
         while let Some(taken) = self.renderers.die(renderer) {
             let_go_times(&mut self.registry, taken.0, taken.1);
         }
+    }
+
+    // A renderer's readers, its URLs and its handles go, and it is dead.
+    #[tactic(auto, unfolding(crate::specs::Whole::IsWhole))]
+    pub(crate) fn depart(&mut self, renderer: RendererId)
+        requires whole { IsWhole self.old }
+        requires alive { IsSome (living_of renderer.0 self.old.renderers) }
+        ensures whole { IsWhole self.new }
+        ensures goes { Goes renderer.0 self.old self.new }
+    {
+        self.close_readers(renderer);
+        self.drop_urls(renderer);
+        self.drop_handles(renderer);
     }
 
     /// A renderer dies: its handles, its URLs and its readers go.
@@ -96,9 +115,7 @@ impl Parts {
         if let Some(why) = self.renderer_refusal(renderer) {
             return Answer::Refused(why);
         }
-        self.close_readers(renderer);
-        self.drop_urls(renderer);
-        self.drop_handles(renderer);
+        self.depart(renderer);
         Answer::Good
     }
 }

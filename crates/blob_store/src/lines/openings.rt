@@ -1,6 +1,7 @@
 //! How a reader is opened.
-ghost use Rattle.std.specs.Prelude.{◌≡◌, ◌^◌, ◌<◌, None, Some, false, true, map, IfErr, IfOk, OnErr, OnOk};
+ghost use Rattle.std.specs.Prelude.{◌≡◌, ◌^◌, ◌<◌, None, Some, false, true, map, IfErr, IfOk, IsSome, OnErr, OnOk};
 ghost use Rattle.blob_entries.specs.Book.{entry_of};
+ghost use Rattle.renderer_table.specs.Counted.{origin_at};
 ghost use Rattle.store_laws.specs.OpeningLaws.{opening_refusal, passes_end};
 ghost use Rattle.blob_store.specs.Openings.{course_over};
 ghost use Rattle.blob_store.specs.Roots.{roots_at};
@@ -81,6 +82,7 @@ impl Parts {
         requires whole { IsWhole self.old }
         requires few { self.old.lines < 2 ^ 63 }
         requires rooted { 0 < roots_at self.old.registry blob }
+        requires alive { IsSome (origin_at owner.0 self.old.renderers) }
         ensures whole { OnOk result (IsWhole (with_line self.new)) }
         ensures opening { IfOk result (λ answer. Opening
             (record { owner = owner; number = number; blob = blob; off = off; len = len })

@@ -105,7 +105,7 @@ impl PageFiles {
         ensures later { D.faults disk.old ≤ D.faults disk.new }
         ensures meter { D.meter disk.new ≡ D.meter disk.old }
     {
-        let _charged = self.charged;
+        let _charged = self.charged; // says that the invariant holds
         let Ok(next) = self.next_page(left) else {
             return Err(JobFault::NoMemory);
         };
@@ -185,7 +185,7 @@ impl PageFiles {
         ensures later { D.faults disk.old ≤ D.faults disk.new }
         ensures meter { D.meter disk.new ≡ D.meter disk.old }
     {
-        let _charged = self.charged;
+        let _charged = self.charged; // says that the invariant holds
         let Ok(next) = self.next_page(&[held]) else {
             return Err(StoreFault::NoMemory);
         };

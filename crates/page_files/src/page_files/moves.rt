@@ -105,7 +105,7 @@ impl PageFiles {
         ensures read { IfOk result (λ _. min (D.meter disk.new) (2 ^ 64 - 1)
             ≡ min (D.meter disk.old + bytes_of left.now) (2 ^ 64 - 1)) }
     {
-        let _charged = self.charged;
+        let _charged = self.charged; // says that the invariant holds
         let Ok(next) = self.next_page(left) else {
             return Err(MoveFault::NoMemory);
         };

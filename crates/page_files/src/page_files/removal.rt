@@ -42,7 +42,7 @@ impl PageFiles {
         ensures later { D.faults disk.old ≤ D.faults disk.new }
         ensures meter { D.meter disk.new ≡ D.meter disk.old }
     {
-        let _pages = self.table.len();
+        let _pages = self.table.len(); // says that a place is a number
         self.forget(place);
         match disk.remove(PageNo(place as u32)) {
             Ok(()) => true,

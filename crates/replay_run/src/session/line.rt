@@ -81,7 +81,8 @@ pub fn take_turn<S: Source, K: Sink>(
 ) -> Turn
     requires { buffer.old ≡ [] }
     ensures turned { (l : SomeLimits) (h : History) → Rests l store.old h
-        → reader.old.last ≡ steps.Line → Turned l h number (prepend_known reader.old.ahead (S.left session.old))
+        → reader.old.last ≡ steps.Line
+        → Turned l h number (prepend_known reader.old.ahead (S.left session.old))
         (prepend_known reader.new.ahead (S.left session.new)) (K.held out.old)
         (K.held out.new) store.new result }
     ensures ready { result ≡ Turn.More → reader.new.last ≡ steps.Line }
@@ -185,7 +186,8 @@ pub fn past_lines<S: Source, K: Sink>(
     out: &mut K,
 ) -> SessionEnd
     ensures ends { reader.old.last ≡ steps.Line
-        → EndsAt IsNone IsOutPast (MOST_LINES + 1) (prepend_known reader.old.ahead (S.left session.old))
+        → EndsAt IsNone IsOutPast (MOST_LINES + 1)
+        (prepend_known reader.old.ahead (S.left session.old))
         (K.held out.old) (K.held out.new) result }
     ensures cause { reader.old.last ≡ steps.Line
         → HasCause result (S.faults session.old) (S.faults session.new) (K.faults out.old)

@@ -26,7 +26,7 @@ impl Reader {
         requires { count ≤ self.now.end - self.now.place }
         ensures { result ≡ self.now.place + count }
     {
-        let _end = self.end;
+        let _end = self.end; // says that the sum is below 2^64
         self.place + count
     }
 }

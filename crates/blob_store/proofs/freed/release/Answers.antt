@@ -2,7 +2,7 @@ use Rattle.std.proofs.Common.{subst}
 use Rattle.item_shares.specs.declared.item.Item.{Item}
 use Rattle.data_handles.specs.Boxes.{of_table}
 use Rattle.data_handles.specs.contracts.boxed.BoxedDataHandle.TheImpl.{seen-value}
-use Rattle.blob_store.specs.Freed.{CanRelease}
+use Rattle.store_laws.specs.Releasing.{CanRelease}
 use Rattle.blob_store.proofs.Releasing.{releasable_at}
 use Rattle.blob_store.proofs.freed.release.Goals as goal
 

@@ -2,7 +2,7 @@ use Rattle.std.proofs.Common.{◌≡◌, take, drop}
 use Rattle.std.specs.Prelude.{fold}
 use Rattle.data_handles.specs.Boxes.{of_table}
 use Rattle.data_handles.specs.contracts.boxed.BoxedDataHandle.TheImpl.{seen-value}
-use Rattle.blob_store.specs.Freed.{released_by, AreReleasable}
+use Rattle.store_laws.specs.Releasing.{released_by, AreReleasable}
 use Rattle.blob_store.proofs.freed.release.Given as goal
 
 abbrev pub invariant-loop-item : goal.invariant-loop-item

@@ -3,6 +3,8 @@ use Rattle.std.proofs.Common.{ℕ, List, map, refl, sym, ap, subst}
 use Rattle.blob_entries.specs.Book.{Book}
 use Rattle.store_laws.specs.TableLaws.{no_reader, one_reader}
 use Rattle.blob_store.specs.declared.parts.Parts.{Parts}
+use Rattle.blob_store.specs.declared.readers.OpenReader.{OpenReader}
+use Rattle.blob_store.specs.Holders.{IsUnread}
 use Rattle.blob_store.specs.Seen.{reader_of}
 use Rattle.blob_store.specs.Whole.{IsWhole, Whole}
 use Rattle.blob_store.proofs.Leaving.{fewer_open, held_open, left_seen, readers_leave, rerooted_by, whole_unread}
@@ -34,3 +36,7 @@ pub returns-clause-readers : goal.returns-clause-readers
 returns-clause-readers c =
     readers_leave c.args.renderer.0 c.args.self.now.readers c.loop-open.self.readers c.close_first.new.self c.loop-open.invariant.went
     c.in_default.ensures.none.0 c.in_default.ensures.none.1
+
+pub returns-clause-unread : goal.returns-clause-unread
+returns-clause-unread c =
+    subst (λ (readers : List (ℕ × OpenReader)). IsUnread c.args.renderer.0 readers) (sym c.in_default.ensures.none.0) c.in_default.ensures.none.1

@@ -15,7 +15,7 @@ pub few-waiting-requires : goal.few-waiting-requires
 unfolding IsWhole
 few-waiting-requires c =
     let few = waiting_few c.args.self.now.registry.names c.args.self.now.rows in
-    let same = ap (λ (list : List (ℕ × ℕ)). length list) c.requires.waits in
+    let same = ap (λ (list : List (ℕ × ℕ)). length list) c.requires.blobs.waits in
     omega (arith, few, same, c.waiting.ensures.value, c.registered-most.ensures.names)
 
 pub returns : goal.returns

@@ -21,7 +21,7 @@ pub let_go-requires : goal.let_go-requires
 unfolding IsWhole
 let_go-requires c =
     let parts = c.args.self.now in
-    rooted parts.registry parts.renderers parts.urls parts.readers c.args.renderer.0 c.args.name (c.requires.roots c.args.name)
+    rooted parts.registry parts.renderers parts.urls parts.readers c.args.renderer.0 c.args.name (c.requires.holders.roots c.args.name)
     (none_due c.args.renderer c.args.name parts.renderers c.in-Ok.ensures.fault).1
 
 pub returns-in-Ok-clause-whole : goal.returns-in-Ok-clause-whole

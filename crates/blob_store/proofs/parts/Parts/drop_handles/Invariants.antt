@@ -14,6 +14,7 @@ invariant-loop-taken l = record {
   others : (other name : ℕ) → (l.renderer.0 == other) ≡ false → count_of other name l.self.renderers ≡ count_of other name l.fn.self.renderers;
   origins : (other : ℕ) → origin_at other l.self.renderers ≡ origin_at other l.fn.self.renderers;
   spawned : l.self.renderers.spawned ≡ l.fn.self.renderers.spawned;
+  many : length l.self.renderers.living ≡ length l.fn.self.renderers.living;
   rest : l.self ≡ record l.fn.self { registry = l.self.registry; renderers = l.self.renderers };
 }
 

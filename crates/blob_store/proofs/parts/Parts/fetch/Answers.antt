@@ -1,5 +1,6 @@
 -- A renderer that isn't there, a URL that leads nowhere, and a reader of what a URL leads to.
-use Rattle.std.proofs.Common.{◌<◌, List, [], ◌∷◌, Option, ap, sym, ◌∙◌}
+use Rattle.std.proofs.Common.{ℕ, ◌<◌, List, [], ◌∷◌, Option, ap, sym, ◌∙◌}
+use Rattle.std.specs.Prelude.{is_some}
 use Rattle.std.specs.Option.{option_copied}
 use Rattle.answer_text.specs.declared.answer.Answer.{Answer}
 use Rattle.blob_entries.specs.Book.{entry_of}
@@ -26,6 +27,9 @@ pub open_range-requires-clause-rooted : goal.open_range-requires-clause-rooted
 unfolding IsWhole
 open_range-requires-clause-rooted c =
     led_roots c.args.self.now c.in-Some.origin.now c.args.text.now c.in-Ok.name c.requires.whole c.in-Ok.ensures
+
+pub open_range-requires-clause-alive : goal.open_range-requires-clause-alive
+open_range-requires-clause-alive c = ap (λ (held : Option (List ℕ)). is_some held) (sym c.in-Some.ensures)
 
 pub returns-in-Ok-clause-says : goal.returns-in-Ok-clause-says
 unfolding IsWhole Says

@@ -27,7 +27,7 @@ returns-clause-whole c =
     (sym c.entry_rooted-entry.ensures)
     (none_stands c.args.number entry c.args.off c.args.len parts.readers c.in-Ok.ensures.ok.0).1
     (subst (λ (course : Course). Opens c.args.number.0 (record { owner = c.args.owner; blob = c.args.blob; course = course }) parts.readers c.add.new.self)
-    c.in-Ok.ensures.ok.1 c.in_ok-add.ensures.ok))
+    c.in-Ok.ensures.ok.1 c.in_ok-add.ensures.ok) c.requires.alive)
 
 pub returns-clause-opening : goal.returns-clause-opening
 returns-clause-opening c =

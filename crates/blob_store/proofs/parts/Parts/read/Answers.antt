@@ -13,6 +13,7 @@ use Rattle.blob_store.specs.Whole.{IsWhole}
 use Rattle.blob_store.proofs.HeardReaders.{heard_read, heard_unhandled}
 use Rattle.blob_store.proofs.HeldBy.{known_so}
 use Rattle.blob_store.proofs.Opened.{ok_so}
+use Rattle.blob_store.proofs.Owning.{handle_owner}
 use Rattle.blob_store.proofs.Rerooting.{handle_roots, stands_rooted}
 use Rattle.blob_store.proofs.parts.Parts.read.Goals as goal
 
@@ -26,6 +27,10 @@ pub open_range-requires-clause-rooted : goal.open_range-requires-clause-rooted
 unfolding IsWhole
 open_range-requires-clause-rooted c =
     handle_roots c.args.self.now c.args.renderer c.args.name c.requires.whole (sym c.handle_refusal.ensures ∙ c.in_default.is)
+
+pub open_range-requires-clause-alive : goal.open_range-requires-clause-alive
+open_range-requires-clause-alive c =
+    handle_owner c.args.renderer c.args.name c.args.self.now.renderers (sym c.handle_refusal.ensures ∙ c.in_default.is)
 
 pub returns-clause-says : goal.returns-clause-says
 unfolding IsWhole Says

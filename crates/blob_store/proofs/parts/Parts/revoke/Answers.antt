@@ -58,7 +58,8 @@ returns-in-Some-remove-clause-whole c =
     let book : c.let_go.new.self ≡ changed parts.registry url.0.blob held_less =
     c.let_go.ensures ∙ ap (λ (name : ℕ). changed parts.registry name held_less) (sym url.2) in
     subst (λ (book : Book). Whole (record parts { registry = book; urls = c.remove.new.self })) (sym book)
-    (whole_unnamed parts text url.0 c.remove.new.self c.requires (own_there c.args.renderer.0 text parts.urls url.0 url.1) c.in-Some-remove.ensures.cases.1)
+    (whole_unnamed parts text url.0 c.remove.new.self c.requires (own_there c.args.renderer.0 text parts.urls url.0 url.1) c.in-Some-remove.ensures.cases.1
+    c.in-Some-remove.ensures.goes)
 
 pub returns-in-Some-remove-clause-says : goal.returns-in-Some-remove-clause-says
 unfolding Says

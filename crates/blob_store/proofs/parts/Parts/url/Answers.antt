@@ -34,7 +34,7 @@ hold-requires c =
     let parts = c.args.self.now in
     let due : handle_refusal c.args.renderer c.args.name parts.renderers ≡ None = sym c.handle_refusal.ensures ∙ c.in_default.is in
     stands_below parts.registry c.args.name parts.lines (handle_roots parts c.args.renderer c.args.name c.requires.whole due)
-    (c.requires.whole.few c.args.name) c.requires.few
+    (c.requires.whole.holders.few c.args.name) c.requires.few
 
 pub returns-in-Ok-clause-whole : goal.returns-in-Ok-clause-whole
 unfolding IsWhole
@@ -43,7 +43,7 @@ returns-in-Ok-clause-whole c =
     let due : handle_refusal c.args.renderer c.args.name parts.renderers ≡ None = sym c.handle_refusal.ensures ∙ c.in_default.is in
     subst (λ (book : Book). Whole (with_line (record parts { registry = book; urls = c.add.new.self }))) (sym c.hold.ensures)
     (whole_named parts c.args.renderer c.args.name c.args.text.now c.unwrap-origin.result.now c.add.new.self c.requires.whole due
-    c.in-Ok.ensures.none_due.1 c.in-Ok.ensures.ok)
+    c.in-Ok.ensures.none_due.1 c.in-Ok.ensures.ok c.in-Ok.ensures.comes)
 
 pub returns-in-Ok-clause-says : goal.returns-in-Ok-clause-says
 unfolding Says

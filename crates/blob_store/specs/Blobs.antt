@@ -1,0 +1,98 @@
+-- What the entries of a store keep with the items that they view, and with the rows beside them. Own.
+use Rattle.std.specs.Prelude.{ℕ, ◌≡◌, ◌+◌, ◌<◌, ◌≤◌, Bool, false, true, List, filter, flat_map, length, slice_get, slice_index, Option, None, Some, IfSome, IsSomeAnd}
+use Rattle.std.specs.List.{AllByRecursion}
+use Rattle.blob_words.specs.declared.status.Status.{Status}
+use Rattle.blob_words.specs.declared.status.Status.TheVariants.{PendingQuota, PendingTransport}
+use Rattle.item_shares.specs.Shares.{item_at}
+use Rattle.item_shares.specs.Weights.{weights}
+use Rattle.item_shares.specs.declared.item.Item.{Item}
+use Rattle.item_shares.specs.declared.item.Item.TheVariants.{Reserved}
+use Rattle.item_shares.specs.declared.shares.Share.{Share}
+use Rattle.blob_items.specs.declared.view.View.{View}
+use Rattle.blob_entries.specs.Book.{Book, entry_at}
+use Rattle.blob_entries.specs.Contents.{is_own}
+use Rattle.blob_entries.specs.Counts.{count_at}
+use Rattle.blob_entries.specs.Holdings.{held_views, views_in}
+use Rattle.blob_entries.specs.Names.{number_of}
+use Rattle.blob_entries.specs.Statuses.{is_pending}
+use Rattle.blob_entries.specs.Weights.{cut_weight}
+use Rattle.blob_entries.specs.declared.entry.Entry.{Entry}
+use Rattle.page_files.specs.Files.{Files}
+use Rattle.quota_queue.specs.Queue.{Queue}
+use Rattle.recent_items.specs.Recent.{is_there}
+use Rattle.store_laws.specs.Items.{item_length}
+use Rattle.store_laws.specs.PartLaws.{own_steps, piece_lengths}
+use Rattle.store_laws.specs.Weights.{memory_weight, piece_weight, reserved_weight}
+use Rattle.blob_store.specs.Rows.{bytes_gathered, pieces_gathered, pieces_of_row, pins, waiting}
+use Rattle.blob_store.specs.Stored.{row_weights}
+use Rattle.blob_store.specs.declared.row.Row.{Row}
+use Rattle.blob_store.specs.declared.row.Sending.{Sending}
+use Rattle.blob_store.specs.declared.row.Sending.TheVariants.{Settled, Waiting, Gathering, Writing}
+
+-- ---- views
+
+-- a view lies inside the item of its slot
+abbrev pub IsInside : List (Option Share) → View → Type 0
+IsInside shares view = IsSomeAnd (item_at shares view.slot) (λ (item : Item). view.off + view.len ≤ item_length item)
+
+-- the bytes of an item can be asked for
+abbrev pub IsThere : Item → Type 0
+IsThere (Reserved piece len) = ⊥
+IsThere item = Unit {0}
+
+-- the views of an entry lie inside items, and those of its bytes on items that are there
+pub record Views (shares : List (Option Share)) (entry : Entry) : Type 0 where
+  pub inside : AllByRecursion (IsInside shares) (held_views entry)
+  pub there : AllByRecursion (λ (view : View). IfSome (item_at shares view.slot) IsThere) entry.views
+
+-- the weights of the blobs bound the views that each entry has or will have
+abbrev pub AreWeighed : Book → List ℕ → Type 0
+AreWeighed book weights =
+    (number : ℕ) → IfSome (entry_at book.entries number)
+    (λ (entry : Entry). length (held_views entry) + cut_weight book.names weights entry.recipe ≤ slice_index weights number)
+
+-- a slot counts the views on it, and one more while its piece is on its way to a page file, when nothing views it; what is charged, reserved and
+-- counted is what the items and the gathered bytes take
+pub record Charged (entries : List (Option Entry)) (shares : List (Option Share)) (rows : List Row) (quota : Queue) (files : Files) (held : ℕ) : Type 0 where
+  pub counts : (slot : ℕ) → count_at shares slot ≡ views_in entries slot + pins slot rows
+  pub unpinned : (slot : ℕ) → 0 < views_in entries slot → pins slot rows ≡ 0
+  pub used : quota.used ≡ weights memory_weight shares + bytes_gathered rows
+  pub reserved : files.reserved ≡ weights reserved_weight shares
+  pub held_so : held ≡ weights piece_weight shares + pieces_gathered rows
+
+-- ---- entries and rows
+
+-- how bytes come for a blob of this status: they wait until it is granted, and come until it has them
+abbrev pub Comes : Status → Option (List View) → Sending → Type 0
+Comes status own Settled = Unit {0}
+Comes status own Waiting = status ≡ PendingQuota
+Comes status own (Gathering segments) = (status ≡ PendingTransport) × (own ≡ None)
+Comes status own (Writing slots came) = (status ≡ PendingTransport) × (own ≡ None)
+
+-- the pieces of a blob are not in the order of use
+abbrev pub AreUnused : ℕ → List (ℕ × ℕ) → Row → Type 0
+AreUnused page order row = (piece : ℕ) → row.first ≤ piece → piece < row.first + pieces_of_row page row → is_there piece order ≡ false
+
+-- an unfinished blob has a step for each of its pieces, none of which was used yet
+pub record Awaits (page : ℕ) (order : List (ℕ × ℕ)) (row : Row) (entry : Entry) : Type 0 where
+  pub comes : Comes entry.status entry.own row.sending
+  pub owned : is_pending entry.status ≡ true → filter is_own entry.recipe ≡ own_steps row.first (flat_map (piece_lengths page) row.lengths)
+  pub unused : is_pending entry.status ≡ true → AreUnused page order row
+
+-- bytes come for blobs that stand alone
+abbrev pub IsAwaited : ℕ → List (ℕ × ℕ) → Option Entry → Row → Type 0
+IsAwaited page order None row = row.sending ≡ Settled
+IsAwaited page order (Some entry) row = Awaits page order row entry
+
+-- ---- all of them
+
+pub record Blobs (page : ℕ) (book : Book) (shares : List (Option Share)) (rows : List Row) (quota : Queue) (files : Files) (order : List (ℕ × ℕ)) (held : ℕ)
+    : Type 0 where
+  pub charged : Charged book.entries shares rows quota files held
+  pub views : (number : ℕ) → IfSome (entry_at book.entries number) (Views shares)
+  -- each blob has a name of its own, and a row
+  pub names : (number : ℕ) → IfSome (slice_get book.names number) (λ (name : ℕ). number_of name book.names ≡ Some number)
+  pub each_row : length rows ≡ length book.names
+  pub awaited : (number : ℕ) → IfSome (slice_get rows number) (IsAwaited page order (entry_at book.entries number))
+  pub waits : quota.waiting ≡ waiting book.names rows
+  pub weighed : AreWeighed book (row_weights rows)
