@@ -33,3 +33,4 @@ pub mod UrlForms
 pub mod TellLaws
 pub mod Deciding
 pub mod DecidingLaws
+pub mod Passing

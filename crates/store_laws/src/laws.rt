@@ -13,6 +13,7 @@ ghost use Rattle.store_laws.specs.LetGo.{ItemsLetGo, OrderLetGo, PagesLetGo, Que
 ghost use Rattle.store_laws.specs.Releasing.{HandlesLetGo};
 ghost use Rattle.store_laws.specs.LineLaws.{LinesStand, NewStands, NoneIsMarked};
 ghost use Rattle.store_laws.specs.SweepLaws.{SweepLeavesLive};
+ghost use Rattle.store_laws.specs.Passing.{EntriesPass, PassStands};
 ghost use Rattle.store_laws.specs.Swept.{SweptStands};
 ghost use Rattle.store_laws.specs.TellLaws.{TellsCells};
 
@@ -193,4 +194,16 @@ pub fn new_entries()
 /// says of its cell.
 pub fn tells_cells()
     ensures { TellsCells }
+{}
+
+/// What a pass makes of the entries stands behind the endings, with the rows of those that ended
+/// settled.
+pub fn entries_pass()
+    ensures { EntriesPass }
+{}
+
+/// The contents stand behind the endings, with the queue without those that ended and the order of
+/// use with the pieces of those that got done.
+pub fn pass_stands()
+    ensures { PassStands }
 {}
