@@ -68,3 +68,4 @@ pub mod PassQueue
 pub mod PassOrder
 pub mod PassUses
 pub mod PassContents
+pub mod LateLists

@@ -34,3 +34,4 @@ pub mod TellLaws
 pub mod Deciding
 pub mod DecidingLaws
 pub mod Passing
+pub mod LateLists
