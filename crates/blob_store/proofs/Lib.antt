@@ -22,3 +22,5 @@ pub mod Opened
 pub mod HeardReaders
 pub mod OwnBytes
 pub mod Slots
+pub mod Weighing
+pub mod Refused
