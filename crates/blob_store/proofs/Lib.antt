@@ -24,3 +24,4 @@ pub mod OwnBytes
 pub mod Slots
 pub mod Weighing
 pub mod Refused
+pub mod Putting

@@ -13,3 +13,5 @@ pub mod Begins
 pub mod Gone
 pub mod Openings
 pub mod Departing
+pub mod NewItems
+pub mod Putting

@@ -1,12 +1,12 @@
 //! Why a line that builds is refused.
-ghost use Rattle.std.specs.Prelude.{◌≡◌, ◌+◌, ◌≤◌, ◌^◌, length, nat_lt, sum, true, IfOk};
+ghost use Rattle.std.specs.Prelude.{◌≡◌, ◌+◌, ◌≤◌, ◌^◌, [], ◌∷◌, length, nat_lt, sum, true, IfOk};
 ghost use Rattle.blob_model.specs.Choice.{first_that};
 ghost use Rattle.blob_model.specs.Parts.{parts_length};
 ghost use Rattle.blob_model.specs.Refusals.{is_many_segments};
 ghost use Rattle.blob_words.specs.declared.bounds.TheConstants.{MOST_PIECES, MOST_WEIGHT};
 ghost use Rattle.data_handles.specs.Boxes.{of_table};
 ghost use Rattle.transport_plan.specs.Spans.{piece_count};
-ghost use Rattle.store_laws.specs.Deciding.{build_refusal_in, line_weight_in, many_in, stands_in};
+ghost use Rattle.store_laws.specs.Deciding.{build_refusal_in, line_weight_in, many_in, many_views_in, slice_refusal_in, stands_in};
 ghost use Rattle.blob_store.specs.Seen.{parts_of};
 
 use super::slots::slot_refusal;
@@ -110,5 +110,61 @@ impl Parts {
             return Ok(Some(Refusal::TooMany(Counted::Blobs)));
         }
         self.many_refusal(handles, renderer, name, parts)
+    }
+
+    // Of a slice that may break at its line.
+    fn views_refusal(
+        &self,
+        handles: &HandleTable,
+        renderer: RendererId,
+        name: BlobName,
+        parts: &[Part],
+    ) -> Result<Option<Refusal>, NoMemory>
+        ensures { IfOk result (λ why. why ≡ first_that (many_views_in (parts_of self.now)
+            (stands_in (parts_of self.now) (of_table ⟦<Boxed as DataHandle>⟧.seen handles.now)
+            renderer name parts.now) parts.now ∷ [])) }
+    {
+        let status = self.line_status(handles, renderer, name, parts)?;
+        match status {
+            Some(_) => Ok(None),
+            None => Ok(self.much_views(parts)),
+        }
+    }
+
+    // Of a slice that doesn't break at its line.
+    fn much_views(&self, parts: &[Part]) -> Option<Refusal>
+        ensures { result ≡ first_that (many_views_in (parts_of self.now) true parts.now ∷ []) }
+    {
+        if self.has_many_views(parts) {
+            return Some(Refusal::TooMany(Counted::Views));
+        }
+        None
+    }
+
+    /// Why a `slice` line is refused, whose one part is this.
+    pub(crate) fn slice_refusal(
+        &self,
+        handles: &HandleTable,
+        renderer: RendererId,
+        name: BlobName,
+        source: BlobName,
+        parts: &[Part],
+    ) -> Result<Option<Refusal>, NoMemory>
+        ensures { IfOk result (λ why. why ≡ slice_refusal_in (parts_of self.now)
+            (of_table ⟦<Boxed as DataHandle>⟧.seen handles.now) renderer name source parts.now) }
+    {
+        if !self.is_alive(renderer) {
+            return Ok(Some(Refusal::NoRenderer(renderer)));
+        }
+        if self.registry.was_registered(name) {
+            return Ok(Some(Refusal::NameUsed(name)));
+        }
+        if !self.holds(renderer, source) {
+            return Ok(Some(Refusal::NoHandle(renderer, source)));
+        }
+        if self.registry.registered() as usize >= MOST_BLOBS {
+            return Ok(Some(Refusal::TooMany(Counted::Blobs)));
+        }
+        self.views_refusal(handles, renderer, name, parts)
     }
 }
