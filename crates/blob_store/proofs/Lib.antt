@@ -25,3 +25,4 @@ pub mod Slots
 pub mod Weighing
 pub mod Refused
 pub mod Putting
+pub mod Arriving

@@ -15,3 +15,4 @@ pub mod Openings
 pub mod Departing
 pub mod NewItems
 pub mod Putting
+pub mod Arriving
