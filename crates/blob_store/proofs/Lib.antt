@@ -22,3 +22,7 @@ pub mod Opened
 pub mod HeardReaders
 pub mod OwnBytes
 pub mod Slots
+pub mod Weighing
+pub mod Refused
+pub mod Putting
+pub mod Arriving

@@ -13,3 +13,6 @@ pub mod Begins
 pub mod Gone
 pub mod Openings
 pub mod Departing
+pub mod NewItems
+pub mod Putting
+pub mod Arriving
