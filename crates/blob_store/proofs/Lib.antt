@@ -22,3 +22,4 @@ pub mod Opened
 pub mod HeardReaders
 pub mod OwnBytes
 pub mod Slots
+pub mod HeardJobs

@@ -32,3 +32,4 @@ pub mod UrlForms
 pub mod TellLaws
 pub mod Deciding
 pub mod DecidingLaws
+pub mod JobLaws

@@ -2,5 +2,6 @@
 #![tactic(auto)]
 
 mod deciding_laws;
+mod job_laws;
 mod laws;
 mod table_laws;
