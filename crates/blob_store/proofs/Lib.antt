@@ -26,3 +26,4 @@ pub mod Weighing
 pub mod Refused
 pub mod Putting
 pub mod Arriving
+pub mod HeardJobs

@@ -69,3 +69,4 @@ pub mod PassOrder
 pub mod PassUses
 pub mod PassContents
 pub mod LateLists
+pub mod Losing

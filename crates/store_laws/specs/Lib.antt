@@ -35,3 +35,4 @@ pub mod Deciding
 pub mod DecidingLaws
 pub mod Passing
 pub mod LateLists
+pub mod JobLaws

@@ -3,5 +3,6 @@
 
 mod deciding_laws;
 mod late_laws;
+mod job_laws;
 mod laws;
 mod table_laws;
