@@ -58,3 +58,4 @@ pub mod Deciding
 pub mod Decided
 pub mod SlotTests
 pub mod BuildRefusals
+pub mod ToldPages

@@ -13,7 +13,7 @@ ghost use Rattle.store_laws.specs.Releasing.{HandlesLetGo};
 ghost use Rattle.store_laws.specs.LineLaws.{LinesStand, NewStands, NoneIsMarked};
 ghost use Rattle.store_laws.specs.SweepLaws.{SweepLeavesLive};
 ghost use Rattle.store_laws.specs.Swept.{SweptStands};
-ghost use Rattle.store_laws.specs.TellLaws.{TellsCells};
+ghost use Rattle.store_laws.specs.TellLaws.{TellsAllCells, TellsCells};
 
 /// A line's own answers and the seven lists of settling, each after the one before, make a legal
 /// group.
@@ -186,4 +186,10 @@ pub fn new_entries()
 /// says of its cell.
 pub fn tells_cells()
     ensures { TellsCells }
+{}
+
+/// So does one that is told of a place in any item, where each page file has the bytes of its
+/// pieces, one after the other, and each of them whole.
+pub fn tells_all_cells()
+    ensures { TellsAllCells }
 {}
