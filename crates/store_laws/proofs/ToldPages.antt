@@ -8,8 +8,7 @@ use Rattle.std.proofs.lemmas.List.Sums.{sum_by-cons}
 use Rattle.item_shares.specs.Shares.{item_at}
 use Rattle.item_shares.specs.declared.item.Item.{Item}
 use Rattle.item_shares.specs.declared.item.Item.TheVariants.{Memory, Paged, Reserved, File, Range}
-use Rattle.data_handles.specs.Table.{Table as HandleTable}
-use Rattle.page_disk.specs.Changes.{HasRange, last_put, put_by}
+use Rattle.page_disk.specs.Changes.{last_put, put_by}
 use Rattle.page_disk.specs.declared.change.Change.{Change}
 use Rattle.page_disk.specs.declared.change.Change.TheVariants as disk_changes
 use Rattle.range_reader.specs.Bytes.{item_byte, item_fails, origins}
@@ -83,8 +82,11 @@ is_other one listed = not (listed == one.number)
 -- ---- the bytes of a page file
 
 module _ (s : Session) (h : History) where
+  abbrev size_of : ℕ → ℕ
+  size_of number = length_in (pieces (page_limit s) h) number
+
   abbrev IsWhole : ℕ → Type 0
-  IsWhole number = length (numbered_bytes s h number) ≡ length_in (pieces (page_limit s) h) number
+  IsWhole number = length (numbered_bytes s h number) ≡ size_of number
 
   -- those of a piece stand at its offset
   abbrev StandsAt : List ℕ → Piece → ℕ → ℕ → Type 0
@@ -98,19 +100,19 @@ module _ (s : Session) (h : History) where
     where
       by : (b : Bool) → (number == one.number) ≡ b → (b || list_any (λ (listed : ℕ). listed == one.number) list) ≡ true
           → (list_any (λ (listed : ℕ). listed == one.number) list ≡ true
-          → StandsAt (list_bytes s h list) one (sum_by (length_in (pieces (page_limit s) h)) (take (prefix_len (is_other one) list) list)) place)
+          → StandsAt (list_bytes s h list) one (sum_by size_of (take (prefix_len (is_other one) list) list)) place)
           → StandsAt (numbered_bytes s h number ++ list_bytes s h list) one
-          (sum_by (length_in (pieces (page_limit s) h)) (take (cond (not (number == one.number)) (1 + prefix_len (is_other one) list) 0) (number ∷ list))) place
+          (sum_by size_of (take (cond (not (number == one.number)) (1 + prefix_len (is_other one) list) 0) (number ∷ list))) place
       by true same f more =
           let mine : numbered_bytes s h number ≡ piece_bytes s h one =
           ap (numbered_bytes s h) (eqb-true number one.number same) ∙ ap (λ (found : Option Piece). option_map_or (piece_bytes s h) found []) at in
-          let size : length_in (pieces (page_limit s) h) number ≡ one.len =
-          ap (length_in (pieces (page_limit s) h)) (eqb-true number one.number same)
+          let size : size_of number ≡ one.len =
+          ap size_of (eqb-true number one.number same)
           ∙ ap (λ (found : Option Piece). option_map_or (λ (piece : Piece). piece.len) found 0) at in
           let long : length (numbered_bytes s h number) ≡ one.len = whole.0 ∙ size in
-          let first : sum_by (length_in (pieces (page_limit s) h)) (take (cond (not (number == one.number)) (1 + prefix_len (is_other one) list) 0) (number ∷ list))
+          let first : sum_by size_of (take (cond (not (number == one.number)) (1 + prefix_len (is_other one) list) 0) (number ∷ list))
           + place ≡ place =
-          ap (λ (b : Bool). sum_by (length_in (pieces (page_limit s) h)) (take (cond (not b) (1 + prefix_len (is_other one) list) 0) (number ∷ list)) + place) same
+          ap (λ (b : Bool). sum_by size_of (take (cond (not b) (1 + prefix_len (is_other one) list) 0) (number ∷ list)) + place) same
           ∙ zero_plus place in (
             ap (λ (bytes : List ℕ). length bytes) (sym mine) ∙ long,
             ap (slice_get (numbered_bytes s h number ++ list_bytes s h list)) first
@@ -122,19 +124,19 @@ module _ (s : Session) (h : History) where
           zero_plus n = omega arith
       by false same f more =
           let rest = more f in
-          let sums : sum_by (length_in (pieces (page_limit s) h)) (take (cond (not (number == one.number)) (1 + prefix_len (is_other one) list) 0) (number ∷ list))
-          ≡ length_in (pieces (page_limit s) h) number + sum_by (length_in (pieces (page_limit s) h)) (take (prefix_len (is_other one) list) list) =
-          ap (λ (b : Bool). sum_by (length_in (pieces (page_limit s) h)) (take (cond (not b) (1 + prefix_len (is_other one) list) 0) (number ∷ list))) same
-          ∙ ap (λ (n : ℕ). sum_by (length_in (pieces (page_limit s) h)) (take n (number ∷ list))) (one_more (prefix_len (is_other one) list))
-          ∙ sum_by-cons (length_in (pieces (page_limit s) h)) number (take (prefix_len (is_other one) list) list) in
+          let sums : sum_by size_of (take (cond (not (number == one.number)) (1 + prefix_len (is_other one) list) 0) (number ∷ list))
+          ≡ size_of number + sum_by size_of (take (prefix_len (is_other one) list) list) =
+          ap (λ (b : Bool). sum_by size_of (take (cond (not b) (1 + prefix_len (is_other one) list) 0) (number ∷ list))) same
+          ∙ ap (λ (n : ℕ). sum_by size_of (take n (number ∷ list))) (one_more (prefix_len (is_other one) list))
+          ∙ sum_by-cons size_of number (take (prefix_len (is_other one) list) list) in
           let long = whole.0 in
-          let where_is : sum_by (length_in (pieces (page_limit s) h)) (take (cond (not (number == one.number)) (1 + prefix_len (is_other one) list) 0) (number ∷ list))
-          + place ≡ length (numbered_bytes s h number) + (sum_by (length_in (pieces (page_limit s) h)) (take (prefix_len (is_other one) list) list) + place) =
+          let where_is : sum_by size_of (take (cond (not (number == one.number)) (1 + prefix_len (is_other one) list) 0) (number ∷ list))
+          + place ≡ length (numbered_bytes s h number) + (sum_by size_of (take (prefix_len (is_other one) list) list) + place) =
           omega (arith, sums, long) in (
             rest.0,
             ap (slice_get (numbered_bytes s h number ++ list_bytes s h list)) where_is
                 ∙ get_second (numbered_bytes s h number) (list_bytes s h list)
-                (sum_by (length_in (pieces (page_limit s) h)) (take (prefix_len (is_other one) list) list) + place)
+                (sum_by size_of (take (prefix_len (is_other one) list) list) + place)
                 ∙ rest.1,
           )
         where
@@ -200,36 +202,34 @@ module _ (s : Session) (h : History) where
           (subst (λ (bytes : Option (List ℕ)). IfSome (option_and_then (λ (each : List ℕ). slice_get each place) (option_map (drop off) bytes))
           (λ (known : ℕ). byte ≡ known)) last is))
 
-  paged_told : (found : Option Piece) (number page off len place byte : ℕ) (told : Option (List Change)) (table : HandleTable)
+  paged_told : (found : Option Piece) (number page off len place byte : ℕ) (told : Option (List Change))
       → Distinct (builds (page_limit s) h) → AreWritten s h → piece_in (pieces (page_limit s) h) number ≡ found
       → IsSomeAnd found (λ (one : Piece). ((facts_of s h).granted one ≡ true) × ((facts_of s h).place one ≡ in_page page)
       × (off ≡ (facts_of s h).offset one) × (len ≡ one.len))
       → place + 1 ≤ len → option_map (map change_as) told ≡ (if s.outside.disk_tells then Some (changes s h) else None)
-      → IfSome told (HasRange page off len)
       → IfSome (option_and_then (λ (bytes : List ℕ). slice_get bytes place) (option_map (drop off) (option_and_then (last_put page) told)))
       (λ (known : ℕ). byte ≡ known)
       → agrees s h (piece_cell found place) byte ≡ true
-  paged_told None number page off len place byte told table distinct written at placed within same there is = absurd placed
-  paged_told (Some one) number page off len place byte told table distinct written at placed within same there is =
+  paged_told None number page off len place byte told distinct written at placed within same is = absurd placed
+  paged_told (Some one) number page off len place byte told distinct written at placed within same is =
       let named : one.number ≡ number =
       eqb-true one.number number (found_true (λ (each : Piece). each.number == number) (pieces (page_limit s) h) one at) in
       let found : piece_in (pieces (page_limit s) h) one.number ≡ Some one = ap (piece_in (pieces (page_limit s) h)) named ∙ at in
       let long = placed.3 in
-      by told s.outside.disk_tells refl same there is found (omega (arith, long, within))
+      by told s.outside.disk_tells refl same is found (omega (arith, long, within))
     where
       some_is : {X : Type 0} (x y : X) → Some x ≡ Some y → x ≡ y
       some_is x y e = cc
 
       by : (told : Option (List Change)) (tells : Bool) → s.outside.disk_tells ≡ tells
           → option_map (map change_as) told ≡ (if s.outside.disk_tells then Some (changes s h) else None)
-          → IfSome told (HasRange page off len)
           → IfSome (option_and_then (λ (bytes : List ℕ). slice_get bytes place) (option_map (drop off) (option_and_then (last_put page) told)))
           (λ (known : ℕ). byte ≡ known)
           → piece_in (pieces (page_limit s) h) one.number ≡ Some one → place < one.len → agrees s h (sent one.blob (one.from + place)) byte ≡ true
-      by told false quiet same there is found within = silent one place page byte distinct found placed.1 within quiet
-      by None true tells same there is found within =
+      by told false quiet same is found within = silent one place page byte distinct found placed.1 within quiet
+      by None true tells same is found within =
           let wrong : None ≡ Some (changes s h) = same ∙ ap (λ (b : Bool). if b then Some (changes s h) else None) tells in absurd (cc wrong)
-      by (Some list) true tells same there is found within =
+      by (Some list) true tells same is found within =
           spoken one place page off len byte list written found placed.1 placed.2 within
           (some_is (map change_as list) (changes s h) (same ∙ ap (λ (b : Bool). if b then Some (changes s h) else None) tells)) is
 
@@ -241,8 +241,8 @@ tells_all_cells s h stands parts told table between ordered written slot place b
         → agrees s h (item_cell (pieces (page_limit s) h) item place) byte ≡ true
     by (Paged piece page off len) at lies passes is =
         let placed = subst (λ (held : Option Item). IfSome held (IsPlaced (pieces (page_limit s) h) (facts_of s h))) at (between.contents.items.each slot) in
-        paged_told s h (piece_in (pieces (page_limit s) h) piece.0) piece.0 page.0 off len place byte told table
-        (ordered_distinct [] (builds (page_limit s) h) ordered) written refl placed lies.0 between.disk_stands lies.2 is
+        paged_told s h (piece_in (pieces (page_limit s) h) piece.0) piece.0 page.0 off len place byte told
+        (ordered_distinct [] (builds (page_limit s) h) ordered) written refl placed lies.0 between.disk_stands is
     by (Memory piece bytes) at lies passes is = tells_cells s h stands parts told table between slot place byte (Memory piece bytes) at tt lies passes is
     by (Reserved piece len) at lies passes is = tells_cells s h stands parts told table between slot place byte (Reserved piece len) at tt lies passes is
     by (File name stamp off len) at lies passes is =
