@@ -59,3 +59,4 @@ pub mod Decided
 pub mod SlotTests
 pub mod BuildRefusals
 pub mod ToldPages
+pub mod Staying

@@ -8,14 +8,16 @@ use Rattle.item_shares.specs.declared.item.Item.{Item}
 use Rattle.page_disk.specs.declared.change.Change.{Change}
 use Rattle.range_reader.specs.Bytes.{item_byte, item_fails, origins}
 use Rattle.range_reader.specs.Places.{Lies}
-use Rattle.blob_model.specs.Builds.{builds}
+use Rattle.blob_model.specs.Builds.{builds, sent}
 use Rattle.blob_model.specs.Changes.{Change as DiskChange, put, changes, list_bytes, numbered_bytes}
-use Rattle.blob_model.specs.History.{History}
+use Rattle.blob_model.specs.History.{History, heard, said}
+use Rattle.session_script.specs.declared.event.Event.{Event}
+use Rattle.answer_text.specs.declared.answer.Answer.{Answer}
 use Rattle.blob_model.specs.Order.{AreOrdered}
 use Rattle.blob_model.specs.Pages.{Page, pages}
 use Rattle.blob_model.specs.Pieces.{length_in, pieces}
 use Rattle.blob_model.specs.Session.{Session, page_limit}
-use Rattle.blob_model.specs.Value.{agrees}
+use Rattle.blob_model.specs.Value.{agrees, value}
 use Rattle.store_laws.specs.BuildLaws.{IsUnpaged}
 use Rattle.store_laws.specs.Cells.{item_cell}
 use Rattle.store_laws.specs.Stands.{Between, Parts}
@@ -53,3 +55,10 @@ TellsAllCells =
     → (slot place byte : ℕ) (item : Item) → item_at parts.shares slot ≡ Some item → Lies (origins parts.files told table) place 1 item
     → item_fails parts.files place item ≡ false → IfSome (item_byte (origins parts.files told table) place item) (λ (known : ℕ). byte ≡ known)
     → agrees s h (item_cell (pieces (page_limit s) h) item place) byte ≡ true
+
+-- what an own byte of a blob was sent as stays so, whatever is heard or said
+pub record ValuesStay : Type 0 where
+  pub by_line : (s : Session) (h : History) (event : Event) (answer : Answer) (blob index byte : ℕ) → value s h (sent blob index) ≡ Some byte
+      → value s (heard h event answer) (sent blob index) ≡ Some byte
+  pub by_answer : (s : Session) (h : History) (answer : Answer) (blob index byte : ℕ) → value s h (sent blob index) ≡ Some byte
+      → value s (said h answer) (sent blob index) ≡ Some byte

@@ -13,7 +13,7 @@ ghost use Rattle.store_laws.specs.Releasing.{HandlesLetGo};
 ghost use Rattle.store_laws.specs.LineLaws.{LinesStand, NewStands, NoneIsMarked};
 ghost use Rattle.store_laws.specs.SweepLaws.{SweepLeavesLive};
 ghost use Rattle.store_laws.specs.Swept.{SweptStands};
-ghost use Rattle.store_laws.specs.TellLaws.{TellsAllCells, TellsCells};
+ghost use Rattle.store_laws.specs.TellLaws.{TellsAllCells, TellsCells, ValuesStay};
 
 /// A line's own answers and the seven lists of settling, each after the one before, make a legal
 /// group.
@@ -192,4 +192,9 @@ pub fn tells_cells()
 /// pieces, one after the other, and each of them whole.
 pub fn tells_all_cells()
     ensures { TellsAllCells }
+{}
+
+/// What an own byte of a blob was sent as stays so, whatever is heard or said.
+pub fn values_stay()
+    ensures { ValuesStay }
 {}
