@@ -70,3 +70,5 @@ pub mod PassUses
 pub mod PassContents
 pub mod LateLists
 pub mod Losing
+pub mod ToldPages
+pub mod Staying

@@ -20,14 +20,14 @@ brought_among (one ∷ all) name segment = by (one.blob == name) (brought_among 
     here arrival = arrival.segment == segment
 
     two : (wanted : Bool) → option_map (λ (arrival : Arrival). arrival.bytes) (find here (map (λ (each : Brought). each.arrival) rest))
-    ≡ option_map brought_bytes (find (is_arrival name segment) all)
+        ≡ option_map brought_bytes (find (is_arrival name segment) all)
         → option_map (λ (arrival : Arrival). arrival.bytes) (cond wanted (Some one.arrival) (find here (map (λ (each : Brought). each.arrival) rest)))
         ≡ option_map brought_bytes (cond wanted (Some one) (find (is_arrival name segment) all))
     two true same = refl
     two false same = same
 
     by : (mine : Bool) → option_map (λ (arrival : Arrival). arrival.bytes) (find here (map (λ (each : Brought). each.arrival) rest))
-    ≡ option_map brought_bytes (find (is_arrival name segment) all)
+        ≡ option_map brought_bytes (find (is_arrival name segment) all)
         → option_map (λ (arrival : Arrival). arrival.bytes) (find here (map (λ (each : Brought). each.arrival) (cond mine (one ∷ rest) rest)))
         ≡ option_map brought_bytes (cond (mine && one.arrival.segment == segment) (Some one) (find (is_arrival name segment) all))
     by true same = two (one.arrival.segment == segment) same
