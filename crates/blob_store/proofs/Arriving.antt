@@ -76,7 +76,8 @@ module _ (shares : List (Option Share)) where
 
 -- ---- items that came are added
 
-pub put_ranges_held : (old new : List (Option Share)) (parts : List Part) (views : List View) → ArePut old (range_items parts) views new → AreRanges new views parts
+pub put_ranges_held : (old new : List (Option Share)) (parts : List Part) (views : List View) → ArePut old (range_items parts) views new
+    → AreRanges new views parts
 put_ranges_held old new parts views put = ranges_held new parts views put.held put.whole
 
 same_item : (here : Option Item) (item : Option Item) → here ≡ item → IfSome item (λ (one : Item). here ≡ Some one)

@@ -60,7 +60,8 @@ unseen shares slot (view ∷ views) (item ∷ items) same none = by (λ more. un
 
     by : (shares_seen shares views ≡ map fresh_share items → is_seen slot views ≡ false) → (b : Bool) → (view.slot == slot) ≡ b
         → (b || is_seen slot views) ≡ false
-    by behind true is = let at : share_at shares slot ≡ fresh_share item = subst (λ (n : ℕ). share_at shares n ≡ fresh_share item) (eqb-true view.slot slot is) here in
+    by behind true is = let at : share_at shares slot ≡ fresh_share item = subst (λ (n : ℕ). share_at shares n ≡ fresh_share item)
+        (eqb-true view.slot slot is) here in
         absurd (cc (at, none))
     by behind false is = behind rest
 
@@ -77,7 +78,8 @@ still_seen : (old new : List (Option Share)) (slot : ℕ) (held : Option Share) 
 still_seen old new slot held [] changes away = refl
 still_seen old new slot held (view ∷ views) changes away = by (still_seen old new slot held views changes) (view.slot == slot) refl away
   where
-    by : (is_seen slot views ≡ false → shares_seen new views ≡ shares_seen old views) → (b : Bool) → (view.slot == slot) ≡ b → (b || is_seen slot views) ≡ false → shares_seen new (view ∷ views) ≡ shares_seen old (view ∷ views)
+    by : (is_seen slot views ≡ false → shares_seen new views ≡ shares_seen old views) → (b : Bool) → (view.slot == slot) ≡ b
+        → (b || is_seen slot views) ≡ false → shares_seen new (view ∷ views) ≡ shares_seen old (view ∷ views)
     by behind true is away = absurd (cc away)
     by behind false is away =
         let other : view.slot ≢ slot = λ same. absurd (cc (is, eqb_refl view.slot slot same)) in
@@ -89,7 +91,8 @@ on_none : (slot : ℕ) (views : List View) → is_seen slot views ≡ false → 
 on_none slot [] away = refl
 on_none slot (view ∷ views) away = by (on_none slot views) (view.slot == slot) refl away
   where
-    by : (is_seen slot views ≡ false → views_on slot views ≡ 0) → (b : Bool) → (view.slot == slot) ≡ b → (b || is_seen slot views) ≡ false → views_on slot (view ∷ views) ≡ 0
+    by : (is_seen slot views ≡ false → views_on slot views ≡ 0) → (b : Bool) → (view.slot == slot) ≡ b → (b || is_seen slot views) ≡ false
+        → views_on slot (view ∷ views) ≡ 0
     by behind true is away = absurd (cc away)
     by behind false is away =
         let one : one_at view.slot slot ≡ 0 = ap (λ (b : Bool). cond b 1 0) is in
