@@ -13,11 +13,18 @@ mod slots;
 mod urls;
 
 use crate::outside::Outside;
+use std::io;
+
+// Takes a line of standard input.
+fn take(rt: &HostRuntime, outside: &mut Outside, line: io::Result<String>) -> anyhow::Result<()> {
+    let line = line?;
+    outside.call(rt, line.as_str())
+}
 
 fn main(rt: HostRuntime) -> anyhow::Result<()> {
     let mut outside = Outside::new(&rt)?;
     for line in rt.lines(rt.alloc()) {
-        outside.call(&rt, line?.as_str())?;
+        take(&rt, &mut outside, line)?;
     }
     Ok(())
 }

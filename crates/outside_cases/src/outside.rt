@@ -6,7 +6,7 @@ use crate::{files, folder, memory, objects, renderers, slots, urls};
 use case_lines::{call_path, memory_disk, word};
 use data_handles::{FileHandle, MemoryHandle};
 use file_table::FileTable;
-use page_disk::MemoryDisk;
+use page_disk::{FolderDisk, MemoryDisk, PageDisk};
 use renderer_table::Renderers;
 use url_store::UrlStore;
 
@@ -17,9 +17,11 @@ pub struct Outside {
     urls: UrlStore,
     renderers: Renderers,
     memory: MemoryDisk,
+    folder: FolderDisk<HostRuntime>,
     object: MemoryHandle,
     opened: Option<FileHandle>,
     ghost memory_closed: { open_in memory ≡ None },
+    ghost folder_closed: { ⟦<FolderDisk<HostRuntime> as PageDisk>⟧.writing folder ≡ None },
 }
 
 impl Outside {
@@ -31,6 +33,7 @@ impl Outside {
             urls: UrlStore::new(alloc)?,
             renderers: Renderers::new(alloc)?,
             memory: memory_disk(alloc, "-", "-")?,
+            folder: FolderDisk::new(rt.clone()?, alloc, "pages")?,
             object: objects::new_object(alloc, "", "-")?,
             opened: None,
         })
@@ -43,10 +46,10 @@ impl Outside {
             "urls" => urls::call(rt, &mut self.urls, line),
             "renderers" => renderers::call(rt, &mut self.renderers, line),
             "memory" => memory::call(rt, &mut self.memory, line),
-            "folder" => folder::call(rt, line),
+            "folder" => folder::call(rt, &mut self.folder, line),
             "path" => Ok(call_path(rt, line)?),
             "object" => objects::call_memory(rt, &mut self.object, line),
-            "opened" => objects::call_file(rt, &mut self.opened, line),
+            "opened" => Ok(objects::call_file(rt, &mut self.opened, line)?),
             "slots" => slots::call(rt, line),
             _ => Ok(println!(rt; "{line}")?),
         }

@@ -6,12 +6,13 @@ ghost use Rattle.page_cases.specs.Moves.{first_moved, page_of_both, page_of_firs
 use crate::calls::fresh_files;
 use crate::fixture::{Standing, look};
 use crate::moving::{add_both, finish_both, start_both, start_first};
-use blob_words::{JobNo, PageNo, PieceNo};
+use blob_words::{JobNo, NoMemory, PageNo, PieceNo};
 use case_lines::show_part;
 use item_shares::Shares;
 use page_disk::PageDisk;
 use page_files::{Closed, JobEnd, JobFault, MoveEnd, MoveFault, PageFiles};
 use std::alloc::Global;
+use std::io;
 
 // What a move shows of which no piece is left.
 #[derive(Drop)]
@@ -96,13 +97,14 @@ fn empty_first<D: PageDisk>(
     }
 }
 
-// The piece 1 of page 0 is reached no more, and the move of piece 0 is started.
+// The piece 1 of page 0 is reached no more, and the move of piece 0 is started, where the page is
+// thin.
 fn start_empty<D: PageDisk>(
     files: &mut PageFiles,
     slots: (usize, usize),
     shares: &mut Shares,
     disk: &mut D,
-) -> anyhow::Result<EmptyRun>
+) -> Result<Option<EmptyRun>, NoMemory>
     requires closed { D.writing disk.old ≡ None }
     requires agrees { IfSome (D.changes disk.old) (Agrees files.old.pages) }
     requires paged { files.old.pages ≡ page_of_both slots.0 slots.1 }
@@ -110,12 +112,12 @@ fn start_empty<D: PageDisk>(
 {
     files.release_piece(PageNo(0), PieceNo(1));
     let Some((job, _)) = start_first(files, slots.0)? else {
-        anyhow::bail!("not thin");
+        return Ok(None);
     };
-    Ok(empty_first(files, job, slots.0, shares, disk))
+    Ok(Some(empty_first(files, job, slots.0, shares, disk)))
 }
 
-fn row_empty_move<D: PageDisk>(heap: Global, disk: &mut D) -> anyhow::Result<EmptyRun>
+fn row_empty_move<D: PageDisk>(heap: Global, disk: &mut D) -> Result<Option<EmptyRun>, NoMemory>
     requires closed { D.writing disk.old ≡ None }
     requires fresh { IfSome (D.changes disk.old) (λ changes. changes ≡ []) }
 {
@@ -125,8 +127,18 @@ fn row_empty_move<D: PageDisk>(heap: Global, disk: &mut D) -> anyhow::Result<Emp
     let job = start_both(&mut files, slots.0, slots.1)?;
     match finish_both(&mut files, job, slots, &mut shares, disk) {
         Ok(_) => start_empty(&mut files, slots, &mut shares, disk),
-        Err(fault) => Err(anyhow::Error::from(fault)),
+        Err(_) => Ok(None),
     }
+}
+
+fn show_run(rt: &HostRuntime, run: &EmptyRun) -> io::Result<()> {
+    show_part(rt, "charged", &run.charged)?;
+    show_part(rt, "due", &run.due)?;
+    show_part(rt, "flight", &run.flight)?;
+    show_part(rt, "as a page job", &run.as_job)?;
+    show_part(rt, "as a compact job", &run.as_move)?;
+    show_part(rt, "then", &run.last)?;
+    show_part(rt, "closed", &run.closed)
 }
 
 /// Starts the move of a piece that is reached no more before it ends.
@@ -134,13 +146,8 @@ pub fn show<D: PageDisk>(rt: &HostRuntime, disk: &mut D) -> anyhow::Result<()>
     requires closed { D.writing disk.old ≡ None }
     requires fresh { IfSome (D.changes disk.old) (λ changes. changes ≡ []) }
 {
-    let run = row_empty_move(rt.alloc(), disk)?;
-    show_part(rt, "charged", &run.charged)?;
-    show_part(rt, "due", &run.due)?;
-    show_part(rt, "flight", &run.flight)?;
-    show_part(rt, "as a page job", &run.as_job)?;
-    show_part(rt, "as a compact job", &run.as_move)?;
-    show_part(rt, "then", &run.last)?;
-    show_part(rt, "closed", &run.closed)?;
-    Ok(())
+    match row_empty_move(rt.alloc(), disk)? {
+        Some(run) => Ok(show_run(rt, &run)?),
+        None => Ok(show_part(rt, "not moved", &0)?),
+    }
 }

@@ -11,6 +11,8 @@ use item_shares::Shares;
 use page_disk::PageDisk;
 use page_files::{Closed, NoJob, PageFiles};
 use std::alloc::Global;
+use std::fmt::Debug;
+use std::io;
 
 // What the call of a job that isn't in flight shows, and that of the job in flight after it.
 #[derive(Drop)]
@@ -71,13 +73,14 @@ fn lose_after<D: PageDisk>(files: &mut PageFiles, job: JobNo, disk: &mut D) -> O
     }
 }
 
-fn show_run(rt: &HostRuntime, run: &OtherRun) -> anyhow::Result<()> {
+// Shows what the call gave, and what came after it.
+fn show_run<T: Debug>(rt: &HostRuntime, end: &T, run: &OtherRun) -> io::Result<()> {
+    show_part(rt, "ended", end)?;
     show_part(rt, "then", &run.standing)?;
     show_part(rt, "lost", &run.lost)?;
     show_part(rt, "lost", &run.again)?;
     show_part(rt, "then", &run.last)?;
-    show_part(rt, "closed", &run.closed)?;
-    Ok(())
+    show_part(rt, "closed", &run.closed)
 }
 
 /// Ends a job of another number than the one in flight.
@@ -93,8 +96,7 @@ pub fn show_other_number<D: PageDisk>(rt: &HostRuntime, disk: &mut D) -> anyhow:
     } = start(rt.alloc(), disk)?;
     let end = finish_two(&mut files, JobNo(7), slots, &mut shares, disk);
     let run = lose_after(&mut files, job, disk);
-    show_part(rt, "ended", &end)?;
-    show_run(rt, &run)
+    Ok(show_run(rt, &end, &run)?)
 }
 
 /// Ends the page job in flight as a compact job.
@@ -110,8 +112,7 @@ pub fn show_other_kind<D: PageDisk>(rt: &HostRuntime, disk: &mut D) -> anyhow::R
     } = start(rt.alloc(), disk)?;
     let end = files.finish_compact(job, &mut shares, disk);
     let run = lose_after(&mut files, job, disk);
-    show_part(rt, "ended", &end)?;
-    show_run(rt, &run)
+    Ok(show_run(rt, &end, &run)?)
 }
 
 /// Loses a job of another number than the one in flight.
@@ -122,6 +123,5 @@ pub fn show_other_lost<D: PageDisk>(rt: &HostRuntime, disk: &mut D) -> anyhow::R
     let Flight { mut files, job, .. } = start(rt.alloc(), disk)?;
     let end = lose(&mut files, JobNo(7), disk);
     let run = lose_after(&mut files, job, disk);
-    show_part(rt, "ended", &end)?;
-    show_run(rt, &run)
+    Ok(show_run(rt, &end, &run)?)
 }

@@ -10,6 +10,7 @@ use item_shares::Shares;
 use page_disk::PageDisk;
 use page_files::{Closed, PageFiles, StoreFault};
 use std::alloc::Global;
+use std::io;
 
 // The bytes of the page.
 const LEN: u32 = 131_073;
@@ -78,16 +79,26 @@ fn remove_long<D: PageDisk>(files: &mut PageFiles, disk: &mut D) -> LongRemoved
     LongRemoved { due, last, closed }
 }
 
-fn row_long_page<D: PageDisk>(heap: Global, disk: &mut D) -> anyhow::Result<LongRun>
+// Where there are other bytes it ends as for want of memory, which no line shows.
+fn row_long_page<D: PageDisk>(heap: Global, disk: &mut D) -> Result<LongRun, NoMemory>
     requires closed { D.writing disk.old ≡ None }
     requires fresh { IfSome (D.changes disk.old) (λ changes. changes ≡ []) }
 {
     let bytes = long_bytes(heap)?;
     if bytes.len() != 131_073 {
-        anyhow::bail!("other bytes");
+        return Err(NoMemory);
     }
     let mut files = reserved_files(heap, 262_144, 131_073, disk)?;
-    Ok(store_long(heap, &mut files, bytes.as_slice(), disk)?)
+    store_long(heap, &mut files, bytes.as_slice(), disk)
+}
+
+fn show_run(rt: &HostRuntime, run: &LongRun) -> io::Result<()> {
+    show_part(rt, "stored", &run.stored)?;
+    show_part(rt, "then", &run.standing)?;
+    show_part(rt, "item", &run.shares.get(run.slot))?;
+    show_part(rt, "due", &run.removed.due)?;
+    show_part(rt, "then", &run.removed.last)?;
+    show_part(rt, "closed", &run.removed.closed)
 }
 
 /// Stores the bytes as one piece, reaches it no more, and removes its page.
@@ -96,11 +107,5 @@ pub fn show<D: PageDisk>(rt: &HostRuntime, disk: &mut D) -> anyhow::Result<()>
     requires fresh { IfSome (D.changes disk.old) (λ changes. changes ≡ []) }
 {
     let run = row_long_page(rt.alloc(), disk)?;
-    show_part(rt, "stored", &run.stored)?;
-    show_part(rt, "then", &run.standing)?;
-    show_part(rt, "item", &run.shares.get(run.slot))?;
-    show_part(rt, "due", &run.removed.due)?;
-    show_part(rt, "then", &run.removed.last)?;
-    show_part(rt, "closed", &run.removed.closed)?;
-    Ok(())
+    Ok(show_run(rt, &run)?)
 }

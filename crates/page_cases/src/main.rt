@@ -19,10 +19,17 @@ mod stores;
 mod whole_page;
 
 use crate::rows::show;
+use std::io;
+
+// Takes a line of standard input.
+fn take(rt: &HostRuntime, line: io::Result<String>) -> anyhow::Result<()> {
+    let line = line?;
+    show(rt, line.as_str())
+}
 
 fn main(rt: HostRuntime) -> anyhow::Result<()> {
     for line in rt.lines(rt.alloc()) {
-        show(&rt, line?.as_str())?;
+        take(&rt, line)?;
     }
     Ok(())
 }

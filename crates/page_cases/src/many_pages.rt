@@ -8,16 +8,17 @@ use blob_words::{PageNo, PieceNo};
 use case_lines::show_part;
 use item_shares::Shares;
 use page_disk::PageDisk;
-use page_files::PageFiles;
-use std::alloc::Global;
+use page_files::{PageFiles, StoreFault};
+use std::io;
 
-// Stores the byte of a number as the page of that number.
+// Stores the byte of a number as the page of that number. Where there is no room, or another page,
+// it ends as for want of memory, which no line shows.
 fn store_one<D: PageDisk>(
     files: &mut PageFiles,
     shares: &mut Shares,
     disk: &mut D,
     number: u32,
-) -> anyhow::Result<()>
+) -> Result<(), StoreFault>
     requires closed { D.writing disk.old ≡ None }
     requires agrees { IfSome (D.changes disk.old) (Agrees files.old.pages) }
     requires limit { files.old.limit ≡ 65536 }
@@ -29,14 +30,16 @@ fn store_one<D: PageDisk>(
     ensures pages { IfOk result (λ _. length files.new.pages ≡ number + 1) }
 {
     if files.charged() >= 65_536 {
-        anyhow::bail!("no room");
+        return Err(StoreFault::NoMemory);
     }
     files.reserve(1);
     let byte = (number & 255) as u8;
-    let slot = add_reserved(shares, PieceNo(number), 1)?;
+    let Ok(slot) = add_reserved(shares, PieceNo(number), 1) else {
+        return Err(StoreFault::NoMemory);
+    };
     let page = store(files, slot, &[byte], shares, disk)?;
     if page != PageNo(number) {
-        anyhow::bail!("another page");
+        return Err(StoreFault::NoMemory);
     }
     Ok(())
 }
@@ -46,7 +49,7 @@ fn store_all<D: PageDisk>(
     files: &mut PageFiles,
     shares: &mut Shares,
     disk: &mut D,
-) -> anyhow::Result<()>
+) -> Result<(), StoreFault>
     requires closed { D.writing disk.old ≡ None }
     requires agrees { IfSome (D.changes disk.old) (Agrees files.old.pages) }
     requires limit { files.old.limit ≡ 65536 }
@@ -88,6 +91,17 @@ fn release_all<D: PageDisk>(files: &mut PageFiles, disk: &mut D) -> u32
     removed
 }
 
+// Shows the pages, what is removed of them at once, and how they are left.
+fn show_pages<D: PageDisk>(rt: &HostRuntime, files: &mut PageFiles, disk: &mut D) -> io::Result<()>
+    requires closed { D.writing disk.old ≡ None }
+    requires agrees { IfSome (D.changes disk.old) (Agrees files.old.pages) }
+{
+    show_part(rt, "then", &look(files))?;
+    show_part(rt, "removed", &release_all(files, disk))?;
+    show_part(rt, "then", &look(files))?;
+    show_part(rt, "closed", &files.close(disk))
+}
+
 /// Stores a byte as each of 65,536 pages, reaches them no more in a scrambled order, and counts
 /// those that are removed at once.
 pub fn show<D: PageDisk>(rt: &HostRuntime, disk: &mut D) -> anyhow::Result<()>
@@ -97,9 +111,5 @@ pub fn show<D: PageDisk>(rt: &HostRuntime, disk: &mut D) -> anyhow::Result<()>
     let mut files = fresh_files(rt.alloc(), 65_536, disk)?;
     let mut shares = Shares::new(rt.alloc())?;
     store_all(&mut files, &mut shares, disk)?;
-    show_part(rt, "then", &look(&files))?;
-    show_part(rt, "removed", &release_all(&mut files, disk))?;
-    show_part(rt, "then", &look(&files))?;
-    show_part(rt, "closed", &files.close(disk))?;
-    Ok(())
+    Ok(show_pages(rt, &mut files, disk)?)
 }

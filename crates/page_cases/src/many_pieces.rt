@@ -13,6 +13,7 @@ use item_shares::Shares;
 use page_disk::PageDisk;
 use page_files::{Closed, JobEnd, JobFault, PageFiles};
 use std::alloc::Global;
+use std::io;
 
 // What a job of many pieces of one byte each shows, of which every second is struck.
 #[derive(Drop)]
@@ -122,26 +123,44 @@ fn end_row<D: PageDisk>(
     }
 }
 
-/// Puts 65,536 pieces into memory, writes every second of them to a page, and removes it. Shows the
-/// last piece that was kept, and the last that was struck.
-pub fn show<D: PageDisk>(rt: &HostRuntime, disk: &mut D) -> anyhow::Result<()>
+// Writes every second piece to a page, and removes it.
+fn run_row<D: PageDisk>(
+    heap: Global,
+    pieces: &[(PieceNo, usize, u64)],
+    shares: &mut Shares,
+    disk: &mut D,
+) -> Result<ManyRun, NoMemory>
+    requires row { IsRow 65536 shares.old pieces.now }
     requires closed { D.writing disk.old ≡ None }
     requires fresh { IfSome (D.changes disk.old) (λ changes. changes ≡ []) }
 {
-    let mut files = fresh_files(rt.alloc(), 65_536, disk)?;
-    let mut shares = Shares::new(rt.alloc())?;
-    let pieces = add_many(rt.alloc(), &mut shares)?;
-    let job = start_row(&mut files, pieces.as_slice(), &shares)?;
-    let run = end_row(&mut files, job, &mut shares, disk);
+    let mut files = fresh_files(heap, 65_536, disk)?;
+    let job = start_row(&mut files, pieces, shares)?;
+    Ok(end_row(&mut files, job, shares, disk))
+}
+
+// Shows the run, the last piece that was kept, and the last that was struck.
+fn show_run(
+    rt: &HostRuntime,
+    run: &ManyRun,
+    pieces: &[(PieceNo, usize, u64)],
+    shares: &Shares,
+) -> io::Result<()> {
     show_part(rt, "charged", &(run.charged, run.struck))?;
     show_part(rt, "paged", &run.paged)?;
     show_part(rt, "then", &run.standing)?;
     show_part(rt, "closed", &run.closed)?;
-    show_part(rt, "kept", &shares.get(slot_at(pieces.as_slice(), 65_534)))?;
-    show_part(
-        rt,
-        "struck",
-        &shares.get(slot_at(pieces.as_slice(), 65_535)),
-    )?;
-    Ok(())
+    show_part(rt, "kept", &shares.get(slot_at(pieces, 65_534)))?;
+    show_part(rt, "struck", &shares.get(slot_at(pieces, 65_535)))
+}
+
+/// Puts 65,536 pieces into memory, writes every second of them to a page, and removes it.
+pub fn show<D: PageDisk>(rt: &HostRuntime, disk: &mut D) -> anyhow::Result<()>
+    requires closed { D.writing disk.old ≡ None }
+    requires fresh { IfSome (D.changes disk.old) (λ changes. changes ≡ []) }
+{
+    let mut shares = Shares::new(rt.alloc())?;
+    let pieces = add_many(rt.alloc(), &mut shares)?;
+    let run = run_row(rt.alloc(), pieces.as_slice(), &mut shares, disk)?;
+    Ok(show_run(rt, &run, pieces.as_slice(), &shares)?)
 }

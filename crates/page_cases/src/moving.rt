@@ -10,10 +10,11 @@ use crate::calls::{fresh_files, is_memory, is_paged};
 use crate::fixture::{Standing, add_memory, look};
 use blob_words::{JobNo, NoMemory, PageNo, PieceNo};
 use case_lines::show_part;
-use item_shares::Shares;
+use item_shares::{Item, Shares};
 use page_disk::PageDisk;
 use page_files::{Closed, JobEnd, JobFault, MoveEnd, MoveFault, PageFiles};
 use std::alloc::Global;
+use std::io;
 
 /// Puts the piece 0, of one byte, and the piece 1, of six, into memory.
 pub fn add_both(heap: Global, shares: &mut Shares) -> Result<(usize, usize), NoMemory>
@@ -249,19 +250,47 @@ fn run_both<D: PageDisk>(
     })
 }
 
-fn show_moved(rt: &HostRuntime, run: &MoveRun) -> anyhow::Result<()> {
+fn show_moved(rt: &HostRuntime, run: &MoveRun) -> io::Result<()> {
     show_part(rt, "moves", &(run.job, run.is_named, run.compacting))?;
     show_part(rt, "charged", &run.charged)?;
-    show_part(rt, "moved", &run.ended)?;
-    Ok(())
+    show_part(rt, "moved", &run.ended)
 }
 
-fn show_rest(rt: &HostRuntime, rest: &Rest) -> anyhow::Result<()> {
+fn show_rest(rt: &HostRuntime, rest: &Rest) -> io::Result<()> {
     show_part(rt, "then", &rest.standing)?;
     show_part(rt, "due", &rest.due)?;
     show_part(rt, "due", &rest.next)?;
-    show_part(rt, "closed", &rest.closed)?;
-    Ok(())
+    show_part(rt, "closed", &rest.closed)
+}
+
+// Shows the run, and the item of the piece that is moved.
+fn show_run(rt: &HostRuntime, run: &CompactRun, item: Option<&Item>) -> io::Result<()> {
+    show_part(rt, "ended", &run.paged)?;
+    show_part(rt, "then", &run.standing)?;
+    show_part(rt, "thin", &run.before)?;
+    if let Some(moved) = &run.moved {
+        show_moved(rt, moved)?;
+    }
+    show_part(rt, "item", &item)?;
+    show_rest(rt, &run.rest)
+}
+
+// Writes both pieces to page 0, moves it, and ends. Gives the slot of the piece 0 too.
+fn row_both<D: PageDisk>(
+    heap: Global,
+    limit: u64,
+    shares: &mut Shares,
+    disk: &mut D,
+) -> Result<(CompactRun, usize), NoMemory>
+    requires enough { 7 ≤ limit }
+    requires closed { D.writing disk.old ≡ None }
+    requires fresh { IfSome (D.changes disk.old) (λ changes. changes ≡ []) }
+{
+    let mut files = fresh_files(heap, limit, disk)?;
+    let slots = add_both(heap, shares)?;
+    let job = start_both(&mut files, slots.0, slots.1)?;
+    let run = run_both(&mut files, job, slots, shares, disk)?;
+    Ok((run, slots.0))
 }
 
 /// Writes two pieces to page 0, moves it once one of them is reached no more, and ends.
@@ -270,17 +299,7 @@ pub fn show<D: PageDisk>(rt: &HostRuntime, limit: u64, disk: &mut D) -> anyhow::
     requires closed { D.writing disk.old ≡ None }
     requires fresh { IfSome (D.changes disk.old) (λ changes. changes ≡ []) }
 {
-    let mut files = fresh_files(rt.alloc(), limit, disk)?;
     let mut shares = Shares::new(rt.alloc())?;
-    let slots = add_both(rt.alloc(), &mut shares)?;
-    let job = start_both(&mut files, slots.0, slots.1)?;
-    let run = run_both(&mut files, job, slots, &mut shares, disk)?;
-    show_part(rt, "ended", &run.paged)?;
-    show_part(rt, "then", &run.standing)?;
-    show_part(rt, "thin", &run.before)?;
-    if let Some(moved) = &run.moved {
-        show_moved(rt, moved)?;
-    }
-    show_part(rt, "item", &shares.get(slots.0))?;
-    show_rest(rt, &run.rest)
+    let (run, slot) = row_both(rt.alloc(), limit, &mut shares, disk)?;
+    Ok(show_run(rt, &run, shares.get(slot))?)
 }

@@ -10,6 +10,7 @@ use item_shares::Shares;
 use page_disk::PageDisk;
 use page_files::{Closed, PageFiles, StoreFault};
 use std::alloc::Global;
+use std::io;
 
 // What two pieces show that are to be stored.
 #[derive(Drop)]
@@ -92,13 +93,20 @@ fn row_stores<D: PageDisk>(heap: Global, disk: &mut D) -> Result<(Stored, Remove
     Ok((stored, removed))
 }
 
-fn show_removed(rt: &HostRuntime, removed: &Removed) -> anyhow::Result<()> {
+fn show_removed(rt: &HostRuntime, removed: &Removed) -> io::Result<()> {
     show_part(rt, "due", &removed.due)?;
     show_part(rt, "due", &removed.next)?;
     show_part(rt, "due", &removed.end)?;
     show_part(rt, "then", &removed.last)?;
-    show_part(rt, "closed", &removed.closed)?;
-    Ok(())
+    show_part(rt, "closed", &removed.closed)
+}
+
+fn show_stored(rt: &HostRuntime, stored: &Stored) -> io::Result<()> {
+    show_part(rt, "first", &stored.first)?;
+    show_part(rt, "second", &stored.second)?;
+    show_part(rt, "then", &stored.standing)?;
+    show_part(rt, "item", &stored.shares.get(stored.slots.0))?;
+    show_part(rt, "item", &stored.shares.get(stored.slots.1))
 }
 
 /// Stores a piece of eight bytes and one of one byte, reaches them no more, and removes their
@@ -108,10 +116,6 @@ pub fn show<D: PageDisk>(rt: &HostRuntime, disk: &mut D) -> anyhow::Result<()>
     requires fresh { IfSome (D.changes disk.old) (λ changes. changes ≡ []) }
 {
     let (stored, removed) = row_stores(rt.alloc(), disk)?;
-    show_part(rt, "first", &stored.first)?;
-    show_part(rt, "second", &stored.second)?;
-    show_part(rt, "then", &stored.standing)?;
-    show_part(rt, "item", &stored.shares.get(stored.slots.0))?;
-    show_part(rt, "item", &stored.shares.get(stored.slots.1))?;
-    show_removed(rt, &removed)
+    show_stored(rt, &stored)?;
+    Ok(show_removed(rt, &removed)?)
 }

@@ -11,6 +11,7 @@ use item_shares::Shares;
 use page_disk::PageDisk;
 use page_files::{Closed, JobEnd, JobFault, PageFiles};
 use std::alloc::Global;
+use std::io;
 
 // What a job of two pieces, of which one is struck, shows from its start to the end of its page.
 #[derive(Drop)]
@@ -139,12 +140,25 @@ fn row_whole_page<D: PageDisk>(heap: Global, disk: &mut D) -> Result<PageRun, No
     })
 }
 
-fn show_removed(rt: &HostRuntime, removed: &Removed) -> anyhow::Result<()> {
+fn show_removed(rt: &HostRuntime, removed: &Removed) -> io::Result<()> {
     show_part(rt, "due", &removed.due)?;
     show_part(rt, "due", &removed.next)?;
     show_part(rt, "then", &removed.last)?;
-    show_part(rt, "closed", &removed.closed)?;
-    Ok(())
+    show_part(rt, "closed", &removed.closed)
+}
+
+fn show_run(rt: &HostRuntime, run: &PageRun) -> io::Result<()> {
+    let started = &run.started;
+    show_part(
+        rt,
+        "started",
+        &(started.job, started.charged, started.struck),
+    )?;
+    show_part(rt, "ended", &run.written.ended)?;
+    show_part(rt, "then", &run.written.standing)?;
+    show_part(rt, "read", &run.written.read)?;
+    show_part(rt, "item", &run.shares.get(run.slot))?;
+    show_removed(rt, &run.removed)
 }
 
 /// Writes the piece that is left in the job, reads its page, reaches it no more, and removes the
@@ -154,14 +168,5 @@ pub fn show<D: PageDisk>(rt: &HostRuntime, disk: &mut D) -> anyhow::Result<()>
     requires fresh { IfSome (D.changes disk.old) (λ changes. changes ≡ []) }
 {
     let run = row_whole_page(rt.alloc(), disk)?;
-    show_part(
-        rt,
-        "started",
-        &(run.started.job, run.started.charged, run.started.struck),
-    )?;
-    show_part(rt, "ended", &run.written.ended)?;
-    show_part(rt, "then", &run.written.standing)?;
-    show_part(rt, "read", &run.written.read)?;
-    show_part(rt, "item", &run.shares.get(run.slot))?;
-    show_removed(rt, &run.removed)
+    Ok(show_run(rt, &run)?)
 }
