@@ -22,3 +22,7 @@ pub mod Opened
 pub mod HeardReaders
 pub mod OwnBytes
 pub mod Slots
+pub mod Settling
+pub mod PiecesGoing
+pub mod Unpinning
+pub mod ItemsLeft

@@ -13,3 +13,4 @@ pub mod Begins
 pub mod Gone
 pub mod Openings
 pub mod Departing
+pub mod Dropping
