@@ -49,10 +49,12 @@ pub record Reroots (change : Entry → Entry) : Type 0 where
   pub own : (entry : Entry) → (change entry).own ≡ entry.own
 
 pub less_reroots : Reroots held_less
-less_reroots = record { views = λ entry. refl; bytes = λ entry. refl; recipe = λ entry. refl; size = λ entry. refl; status = λ entry. refl; own = λ entry. refl }
+less_reroots =
+    record { views = λ entry. refl; bytes = λ entry. refl; recipe = λ entry. refl; size = λ entry. refl; status = λ entry. refl; own = λ entry. refl }
 
 pub more_reroots : Reroots held_more
-more_reroots = record { views = λ entry. refl; bytes = λ entry. refl; recipe = λ entry. refl; size = λ entry. refl; status = λ entry. refl; own = λ entry. refl }
+more_reroots =
+    record { views = λ entry. refl; bytes = λ entry. refl; recipe = λ entry. refl; size = λ entry. refl; status = λ entry. refl; own = λ entry. refl }
 
 -- the roots of a name, once one fewer holds what stands under a name
 pub roots_less : (book : Book) (name other : ℕ)

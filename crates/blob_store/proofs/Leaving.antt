@@ -205,7 +205,8 @@ pub whole_unheld : (parts : Parts) (book : Book) (id name count : ℕ) (counts :
     → ChangesCount (λ (n : ℕ). 0) id name parts.renderers renderers → Whole (record parts { registry = book; renderers = renderers })
 whole_unheld parts book id name count counts renderers whole same roots alive is counted changes =
     let one = some_living (living_of id parts.renderers) alive in
-    whole_same parts book renderers parts.urls parts.readers whole same (born_still (λ (n : ℕ). 0) id name parts.renderers renderers whole.holders.living changes)
+    whole_same parts book renderers parts.urls parts.readers whole same
+    (born_still (λ (n : ℕ). 0) id name parts.renderers renderers whole.holders.living changes)
     (λ other. by other (name == other) refl (roots other) (left other) (handles_moved id parts.renderers renderers one.0 one.1 counts is other))
     (λ other. few other (name == other) (roots other)) whole.holders.readers whole.holders.opened
     (owned_same parts.renderers renderers parts.urls parts.readers changes.origins whole.holders.owned)

@@ -26,3 +26,8 @@ pub mod Settling
 pub mod PiecesGoing
 pub mod Unpinning
 pub mod ItemsLeft
+pub mod Weighing
+pub mod Refused
+pub mod Putting
+pub mod Arriving
+pub mod HeardJobs

@@ -130,7 +130,8 @@ module _ (owner : RendererId) (number : ReaderId) (name : ℕ) (entry : Entry) (
       (λ other. subst (λ (held : Option OpenReader). IfSome held (IsOpen parts.registry)) (sym (opens.each other))
       (by other (number.0 == other) (whole.holders.readers other)))
       (let more = opens.many in omega (arith, more, few))
-      (owned_opened parts.renderers parts.urls number.0 kept parts.readers readers opens alive whole.holders.owned) rooted (λ other. let more = opens.reading other in omega (arith, more))
+      (owned_opened parts.renderers parts.urls number.0 kept parts.readers readers opens alive whole.holders.owned) rooted
+      (λ other. let more = opens.reading other in omega (arith, more))
     where
       sized : is_broken entry.status ≡ false → kept.course.size ≡ entry.size
       sized sound = ap (λ (b : Bool). cond b off entry.size) sound

@@ -62,7 +62,8 @@ owned_spawned id origin old new urls readers spawns =
     by false held is = is
 
 -- of a renderer that dies no reader and no URL is left
-pub owned_dead : (id : ℕ) (old new : Table) (urls : Urls) (readers : Open) → Dies id old new → IsUnread id readers → IsUnlinked id urls → Owned old urls readers → Owned new urls readers
+pub owned_dead : (id : ℕ) (old new : Table) (urls : Urls) (readers : Open) → Dies id old new → IsUnread id readers → IsUnlinked id urls
+    → Owned old urls readers → Owned new urls readers
 owned_dead id old new urls readers dies unread unmade owned = record {
   readers = λ number. reads (reader_at number readers) (unread number) (owned.readers number);
   urls = λ text. makes (url_at text urls) (unmade text) (owned.urls text);

@@ -97,7 +97,8 @@ abbrev pub fewer : ℕ → Entry → Entry
 fewer k entry = with_roots (entry.roots - k) entry
 
 fewer_reroots : (k : ℕ) → Reroots (fewer k)
-fewer_reroots k = record { views = λ entry. refl; bytes = λ entry. refl; recipe = λ entry. refl; size = λ entry. refl; status = λ entry. refl; own = λ entry. refl }
+fewer_reroots k =
+    record { views = λ entry. refl; bytes = λ entry. refl; recipe = λ entry. refl; size = λ entry. refl; status = λ entry. refl; own = λ entry. refl }
 
 pub roots_fewer : (book : Book) (name k other : ℕ)
     → roots_at (changed book name (fewer k)) other ≡ cond (name == other) (roots_at book other - k) (roots_at book other)
@@ -217,7 +218,8 @@ pub whole_passed : (parts : Parts) (giver taker : RendererId) (name : ℕ) (rend
     → ChangesCount (λ (count : ℕ). count + 1) taker.0 name parts.renderers renderers
     → Whole (with_line (record parts { registry = changed parts.registry name held_more; renderers = renderers }))
 whole_passed parts giver taker name renderers whole due is changes =
-    whole_held parts renderers parts.urls parts.readers name whole (born_still (λ (n : ℕ). n + 1) taker.0 name parts.renderers renderers whole.holders.living changes)
+    whole_held parts renderers parts.urls parts.readers name whole
+    (born_still (λ (n : ℕ). n + 1) taker.0 name parts.renderers renderers whole.holders.living changes)
     whole.holders.readers whole.holders.opened
     (owned_same parts.renderers renderers parts.urls parts.readers changes.origins whole.holders.owned) (giver_roots parts giver taker name whole due)
     (λ other.

@@ -14,3 +14,6 @@ pub mod Gone
 pub mod Openings
 pub mod Departing
 pub mod Dropping
+pub mod NewItems
+pub mod Putting
+pub mod Arriving

@@ -2,5 +2,7 @@
 
 mod faults;
 mod plan;
+mod refusals;
 mod slots;
 mod status;
+mod weights;

@@ -1,6 +1,7 @@
 //! The blob store: what each line of a session does, and what is settled after it.
 #![tactic(auto)]
 
+mod building;
 mod deciding;
 pub mod freed;
 mod lines;

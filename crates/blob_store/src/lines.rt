@@ -8,6 +8,7 @@ mod end;
 mod fetch;
 mod file;
 mod gone;
+mod lost;
 mod openings;
 mod pass;
 mod read;

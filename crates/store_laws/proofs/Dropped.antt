@@ -130,7 +130,8 @@ module _ (s : Session) (h : History) (parts : Parts) (tell : Describes s h parts
 
 pub drops_stand : DropsStand
 drops_stand s h stands parts told table between tell covers few later freed freed_so kept used =
-    let released = handles_let_go s.outside.slots (λ (k : ℕ). is_in k (claimed s h)) parts.shares later freed table between.handles between.claims freed_so few in
+    let released = handles_let_go s.outside.slots
+    (λ (k : ℕ). is_in k (claimed s h)) parts.shares later freed table between.handles between.claims freed_so few in
     record {
       owed = owed_so s h parts tell;
       releasable = released.releasable;

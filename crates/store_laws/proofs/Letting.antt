@@ -44,11 +44,11 @@ but item test page number = test page number && not (is_paged_in page number ite
 abbrev but_all : List Item → Test → Test
 but_all freed test page number = test page number && not (list_any (is_paged_in page number) freed)
 
-and_true : (b : Bool) → (b && true) ≡ b
+pub and_true : (b : Bool) → (b && true) ≡ b
 and_true true = refl
 and_true false = refl
 
-and_more : (a b c : Bool) → ((a && not b) && not c) ≡ (a && not (b || c))
+pub and_more : (a b c : Bool) → ((a && not b) && not c) ≡ (a && not (b || c))
 and_more true true c = refl
 and_more true false c = refl
 and_more false b c = refl

@@ -59,3 +59,16 @@ pub mod Deciding
 pub mod Decided
 pub mod SlotTests
 pub mod BuildRefusals
+pub mod Made
+pub mod PassEntries
+pub mod PassKeeps
+pub mod PassRows
+pub mod PassStand
+pub mod PassQueue
+pub mod PassOrder
+pub mod PassUses
+pub mod PassContents
+pub mod LateLists
+pub mod Losing
+pub mod ToldPages
+pub mod Staying

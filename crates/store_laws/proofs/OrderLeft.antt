@@ -68,10 +68,10 @@ nothing true = refl
 nothing false = refl
 
 module _ (test : ℕ → Bool) where
-  abbrev passing : List Piece → List Piece
+  abbrev pub passing : List Piece → List Piece
   passing list = filter (λ (piece : Piece). test piece.number) list
 
-  length_left : (list : List Piece) (n : ℕ) → with_length (passing list) n ≡ cond (test n) (with_length list n) None
+  pub length_left : (list : List Piece) (n : ℕ) → with_length (passing list) n ≡ cond (test n) (with_length list n) None
   length_left [] n = nothing (test n)
   length_left (piece ∷ list) n = go (test piece.number) refl (piece.number == n) refl (length_left list n)
     where
@@ -102,7 +102,7 @@ module _ (test : ℕ → Bool) where
           ∙ sym (ap (λ (c : Bool).
           cond (test n) (option_map sized (cond {A = Option Piece} c (Some piece) (find (λ (one : Piece). one.number == n) list))) None) is)
 
-  number_kept : (list : List Piece) (n : ℕ) (entry : ℕ × ℕ) → with_length list n ≡ Some entry → entry.0 ≡ n
+  pub number_kept : (list : List Piece) (n : ℕ) (entry : ℕ × ℕ) → with_length list n ≡ Some entry → entry.0 ≡ n
   number_kept [] n entry e = absurd (cc e)
   number_kept (piece ∷ list) n entry e = go (piece.number == n) refl e (number_kept list n entry)
     where
@@ -112,7 +112,7 @@ module _ (test : ℕ → Bool) where
       go true is e rest = let same : sized piece ≡ entry = cc e in sym (ap (λ (one : ℕ × ℕ). one.0) same) ∙ eqb-true piece.number n is
       go false is e rest = rest e
 
-  uses_left : (list : List Piece) (uses : List ℕ)
+  pub uses_left : (list : List Piece) (uses : List ℕ)
       → filter_map (λ (n : ℕ). cond (test n) (with_length list n) None) uses
       ≡ filter (λ (entry : ℕ × ℕ). test entry.0) (filter_map (with_length list) uses)
   uses_left list [] = refl
@@ -164,7 +164,7 @@ passing_left H H' M T q list same =
 -- ---- a blob that ended gathers nothing
 
 module _ (s : Session) (h : History) (stands : ℕ → Bool) where
-  not_gathered : (list : List Build) (rows : List (Option Row))
+  pub not_gathered : (list : List Build) (rows : List (Option Row))
       → map (option_map bare) rows ≡ map (λ (build : Build). cond (stands build.name) (Some (row_of s h build)) None) list → (name : ℕ)
       → is_unfinished h name ≡ false → is_gathered list rows name ≡ false
   not_gathered [] rows e name over = refl
@@ -197,14 +197,14 @@ module _ (s : Session) (h : History) (stands : ℕ → Bool) where
       go true at later =
           here (ap (is_unfinished h) (eqb-true build.name name at) ∙ over) held (stands build.name) first
 
-done_over : (h : History) (name : ℕ) → is_done h name ≡ true → is_unfinished h name ≡ false
+pub done_over : (h : History) (name : ℕ) → is_done h name ≡ true → is_unfinished h name ≡ false
 done_over h name e = go (ended h name) e
   where
     go : (o : Option Status) → option_map_or is_done_status o false ≡ true → is_none o ≡ false
     go None e = absurd (false_true e)
     go (Some status) e = refl
 
-or_none : (b c : Bool) → c ≡ false → (b || c) ≡ b
+pub or_none : (b c : Bool) → c ≡ false → (b || c) ≡ b
 or_none true c e = refl
 or_none false c e = e
 

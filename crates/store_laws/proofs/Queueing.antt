@@ -81,10 +81,10 @@ items_let_go views shares later freed lets viewed = record {
 
 -- ---- who waits
 
-abbrev in_queue : Build → ℕ × ℕ
+abbrev pub in_queue : Build → ℕ × ℕ
 in_queue build = (build.name, own_bytes build.parts)
 
-abbrev not_among : List ℕ → ℕ → Bool
+abbrev pub not_among : List ℕ → ℕ → Bool
 not_among names name = not (list_any (λ (one : ℕ). one == name) names)
 
 not_either : (a b : Bool) → (not a && not b) ≡ not (a || b)
@@ -95,7 +95,7 @@ all_stay : (list : List (ℕ × ℕ)) → list ≡ filter (λ (entry : ℕ × �
 all_stay [] = refl
 all_stay (entry ∷ list) = ap (λ (more : List (ℕ × ℕ)). entry ∷ more) (all_stay list)
 
-left_all : (names : List ℕ) (list : List (ℕ × ℕ))
+pub left_all : (names : List ℕ) (list : List (ℕ × ℕ))
     → fold (λ (waiting : List (ℕ × ℕ)) (name : ℕ). without name waiting) list names ≡ filter (λ (entry : ℕ × ℕ). not_among names entry.0) list
 left_all [] list = all_stay list
 left_all (name ∷ names) list =
@@ -104,7 +104,7 @@ left_all (name ∷ names) list =
     ∙ filter_same (λ (entry : ℕ × ℕ). not (nat_eq name entry.0) && not_among names entry.0) (λ (entry : ℕ × ℕ). not_among (name ∷ names) entry.0) list
     (λ entry. not_either (name == entry.0) (list_any (λ (one : ℕ). one == entry.0) names))
 
-queued : (names : List ℕ) (list : List Build)
+pub queued : (names : List ℕ) (list : List Build)
     → filter (λ (entry : ℕ × ℕ). not_among names entry.0) (map in_queue list) ≡ map in_queue (filter (λ (build : Build). not_among names build.name) list)
 queued names [] = refl
 queued names (build ∷ list) = go (not_among names build.name) (queued names list)

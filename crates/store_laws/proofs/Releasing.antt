@@ -214,7 +214,8 @@ module _ (slots : List SlotSaid) (claimed : ℕ → Bool) (shares later : List (
   sums k = goes.weighs (range_weight k)
 
   -- the slot of an item has its object, and is claimed
-  full : (k : ℕ) → holds_slot shares k ≡ true → (slot : Option SlotSaid) → slice_get slots k ≡ slot → IsSome slot → (found : Option Slot) → slot_at table k ≡ found
+  full : (k : ℕ) → holds_slot shares k ≡ true → (slot : Option SlotSaid) → slice_get slots k ≡ slot → IsSome slot → (found : Option Slot)
+      → slot_at table k ≡ found
       → slot_seen found ≡ slot_now true true slot
   full k has slot is there found at =
       ap slot_seen (sym at) ∙ stand k

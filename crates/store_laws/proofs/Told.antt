@@ -5,19 +5,16 @@ use Rattle.std.specs.Option.{option_map, option_map_or}
 use Rattle.std.specs.List.{cons_option, range_with_len}
 use Rattle.std.proofs.lemmas.Bool.{eq-eqb, eqb-true, leb-true}
 use Rattle.data_handles.specs.Handles.{Handle}
-use Rattle.data_handles.specs.Table.{Slot as TableSlot, Table as HandleTable, object_at, slot_at}
-use Rattle.file_table.specs.Files.{is_readable, note_of, state_of}
+use Rattle.data_handles.specs.Table.{Slot as TableSlot, slot_at}
+use Rattle.file_table.specs.Files.{is_readable, note_of}
 use Rattle.file_table.specs.Files.{recorded as noted_state}
 use Rattle.file_table.specs.declared.file_note.FileNote.{FileNote}
 use Rattle.item_shares.specs.Shares.{item_at}
 use Rattle.item_shares.specs.declared.item.Item.{Item}
 use Rattle.item_shares.specs.declared.item.Item.TheVariants.{Memory, Paged, Reserved, File, Range}
-use Rattle.page_disk.specs.declared.change.Change.{Change}
 use Rattle.range_reader.specs.Bytes.{bytes_at, item_byte, item_fails, origins}
 use Rattle.range_reader.specs.Places.{Lies}
-use Rattle.session_script.specs.declared.event.Event.{Event}
 use Rattle.session_script.specs.declared.event.Event.TheVariants as events
-use Rattle.answer_text.specs.declared.answer.Answer.{Answer}
 use Rattle.blob_model.specs.Builds.{filed, lent, sent}
 use Rattle.blob_model.specs.History.{History, heard, refused, said, start}
 use Rattle.blob_model.specs.Pieces.{Piece, pieces}
@@ -26,19 +23,18 @@ use Rattle.blob_model.specs.Pages.{in_memory}
 use Rattle.blob_model.specs.Refusals.{claimed, is_in}
 use Rattle.blob_model.specs.Recorded.{content, recorded, FileState}
 use Rattle.blob_model.specs.Session.{Session, Slot, page_limit}
-use Rattle.blob_model.specs.Value.{agrees, is_byte, is_untold, slot_bytes, tells_nothing, value}
+use Rattle.blob_model.specs.Value.{agrees, is_byte, is_untold, tells_nothing, value}
 use Rattle.model_bridges.specs.Bridges.{state_as}
 use Rattle.store_laws.specs.BuildLaws.{IsUnpaged}
 use Rattle.store_laws.specs.Cells.{item_cell, piece_cell, piece_in}
 use Rattle.store_laws.specs.Items.{holds_slot, IsPlaced}
-use Rattle.store_laws.specs.Stands.{Between, Parts}
 use Rattle.store_laws.specs.Tables.{seen_as, slot_now, slot_seen}
 use Rattle.store_laws.specs.TellLaws.{TellsCells}
 use Rattle.store_laws.specs.Uses.{facts_of}
 
 -- ---- lists
 
-slice_drop : {X : Type 0} (off place : ℕ) (xs : List X) → slice_get (drop off xs) place ≡ slice_get xs (off + place)
+pub slice_drop : {X : Type 0} (off place : ℕ) (xs : List X) → slice_get (drop off xs) place ≡ slice_get xs (off + place)
 slice_drop zero place xs = let same : place ≡ zero + place = omega arith in ap (slice_get xs) same
 slice_drop (suc off) place [] = refl
 slice_drop (suc off) place (x ∷ xs) =
@@ -53,7 +49,7 @@ fewer f a (suc n) = by (f a) (filter_map f (range_with_len (a + 1) n)) (fewer f 
     by (Some y) rest less = omega (arith, less)
 
 -- where nothing is left out each is there
-each_there : (f : ℕ → Option ℕ) (a n : ℕ) → length (filter_map f (range_with_len a n)) ≡ n → (i : ℕ) → i < n
+pub each_there : (f : ℕ → Option ℕ) (a n : ℕ) → length (filter_map f (range_with_len a n)) ≡ n → (i : ℕ) → i < n
     → f (a + i) ≡ slice_get (filter_map f (range_with_len a n)) i
 each_there f a zero whole i within = absurd (omega (arith, within))
 each_there f a (suc n) whole i within =
@@ -69,15 +65,15 @@ each_there f a (suc n) whole i within =
 -- ---- a byte that is the value
 
 module _ (s : Session) (h : History) where
-  is_value : (untold : Bool) (known : Option ℕ) (byte : ℕ) → known ≡ Some byte → (untold || is_byte known byte) ≡ true
+  pub is_value : (untold : Bool) (known : Option ℕ) (byte : ℕ) → known ≡ Some byte → (untold || is_byte known byte) ≡ true
   is_value true known byte is = refl
   is_value false known byte is = ap (λ (found : Option ℕ). is_byte found byte) is ∙ eq-eqb byte byte refl
 
-  by_told : (told value : Option ℕ) (byte : ℕ) → told ≡ value → is_some told ≡ true → IfSome told (λ (known : ℕ). byte ≡ known) → value ≡ Some byte
+  pub by_told : (told value : Option ℕ) (byte : ℕ) → told ≡ value → is_some told ≡ true → IfSome told (λ (known : ℕ). byte ≡ known) → value ≡ Some byte
   by_told None value byte same there is = absurd (cc there)
   by_told (Some known) value byte same there is = sym same ∙ ap (λ (n : ℕ). Some n) (sym is)
 
-  got : {X : Type 0} (xs : List X) (i : ℕ) → i < length xs → is_some (slice_get xs i) ≡ true
+  pub got : {X : Type 0} (xs : List X) (i : ℕ) → i < length xs → is_some (slice_get xs i) ≡ true
   got [] i within = absurd (omega (arith, within))
   got (x ∷ xs) zero within = refl
   got (x ∷ xs) (suc i) within = got xs i (omega (arith, within))

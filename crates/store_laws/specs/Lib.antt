@@ -33,3 +33,6 @@ pub mod UrlForms
 pub mod TellLaws
 pub mod Deciding
 pub mod DecidingLaws
+pub mod Passing
+pub mod LateLists
+pub mod JobLaws

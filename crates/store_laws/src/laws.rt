@@ -13,8 +13,9 @@ ghost use Rattle.store_laws.specs.LetGo.{ItemsLetGo, OrderLetGo, PagesLetGo, Que
 ghost use Rattle.store_laws.specs.Releasing.{HandlesLetGo};
 ghost use Rattle.store_laws.specs.LineLaws.{LinesStand, NewStands, NoneIsMarked};
 ghost use Rattle.store_laws.specs.SweepLaws.{SweepLeavesLive};
+ghost use Rattle.store_laws.specs.Passing.{EntriesPass, PassStands};
 ghost use Rattle.store_laws.specs.Swept.{SweptStands};
-ghost use Rattle.store_laws.specs.TellLaws.{TellsCells};
+ghost use Rattle.store_laws.specs.TellLaws.{TellsAllCells, TellsCells, ValuesStay};
 
 /// A line's own answers and the seven lists of settling, each after the one before, make a legal
 /// group.
@@ -193,4 +194,27 @@ pub fn new_entries()
 /// says of its cell.
 pub fn tells_cells()
     ensures { TellsCells }
+{}
+
+/// What a pass makes of the entries stands behind the endings, with the rows of those that ended
+/// settled.
+pub fn entries_pass()
+    ensures { EntriesPass }
+{}
+
+/// The contents stand behind the endings, with the queue without those that ended and the order of
+/// use with the pieces of those that got done.
+pub fn pass_stands()
+    ensures { PassStands }
+{}
+
+/// So does one that is told of a place in any item, where each page file has the bytes of its
+/// pieces, one after the other, and each of them whole.
+pub fn tells_all_cells()
+    ensures { TellsAllCells }
+{}
+
+/// What an own byte of a blob was sent as stays so, whatever is heard or said.
+pub fn values_stay()
+    ensures { ValuesStay }
 {}

@@ -2,5 +2,7 @@
 #![tactic(auto)]
 
 mod deciding_laws;
+mod job_laws;
+mod late_laws;
 mod laws;
 mod table_laws;

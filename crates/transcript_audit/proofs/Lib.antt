@@ -4,3 +4,6 @@ mod Turned
 mod OwnTests
 mod OwnCount
 mod Judging
+mod GoodCells
+mod Arrivals
+mod CellReads

@@ -25,7 +25,7 @@ use Rattle.blob_model.specs.Own.{accepted, failing, read_faults, IsGiven, IsRead
 use Rattle.blob_model.proofs.Lists.{both, false_true, or_cases, or_first, or_second}
 use Rattle.blob_model.proofs.tested.Words.{same_reader-sound, same_reader-whole}
 use Rattle.blob_model.proofs.tested.Answers.{same_answer-sound, same_answer-whole}
-use Rattle.transcript_audit.specs.Tests.{same_answer, is_only, is_among, is_some_of, is_pair, is_pair_among}
+use Rattle.transcript_audit.specs.Tests.{same_answer, is_only, is_among, is_pair, is_pair_among}
 use Rattle.transcript_audit.specs.OwnTests.{is_given, is_read, is_next, is_step_by, is_step, is_single}
 
 -- two answers that are one
@@ -44,16 +44,6 @@ pub only-whole : (a : Answer) (list : List Answer) → (a ∷ []) ≡ list → i
 only-whole a [] e = cc
 only-whole a (one ∷ []) e = whole_at a one (alone a one e)
 only-whole a (one ∷ two ∷ more) e = cc
-
-pub some-sound : (a : Answer) (lists : List (List Answer)) → is_some_of a lists ≡ true → IsOneOf (a ∷ []) lists
-some-sound a [] e = absurd (false_true e)
-some-sound a (list ∷ lists) e =
-    ⊎_elim (λ same. inl (only-sound a list same)) (λ later. inr (some-sound a lists later)) (or_cases (is_only a list) (is_some_of a lists) e)
-
-pub some-whole : (a : Answer) (lists : List (List Answer)) → IsOneOf (a ∷ []) lists → is_some_of a lists ≡ true
-some-whole a [] one = absurd one
-some-whole a (list ∷ lists) (inl same) = or_first (is_only a list) (is_some_of a lists) (only-whole a list same)
-some-whole a (list ∷ lists) (inr later) = or_second (is_only a list) (is_some_of a lists) (some-whole a lists later)
 
 pub among-sound : (a : Answer) (lists : List (List Answer)) → is_among a lists ≡ true → IsOneOf (a ∷ []) lists
 among-sound a [] e = absurd (false_true e)
@@ -125,25 +115,25 @@ given-whole s h reader cells a given =
 read-sound : (s : Session) (h : History) (reader : ReaderId) (cells : List Cell) (first : Option Cell) (a : Answer) → is_read s h reader cells first a ≡ true
     → IsRead s h reader cells first (a ∷ [])
 read-sound s h reader cells None a e =
-    ⊎_elim (λ given. inl (given-sound s h reader cells a given)) (λ fault. inr (some-sound a (read_faults s h reader cells) fault))
-    (or_cases (is_given s h reader cells a) (is_some_of a (read_faults s h reader cells)) e)
+    ⊎_elim (λ given. inl (given-sound s h reader cells a given)) (λ fault. inr (among-sound a (read_faults s h reader cells) fault))
+    (or_cases (is_given s h reader cells a) (is_among a (read_faults s h reader cells)) e)
 read-sound s h reader cells (Some cell) a e =
     ⊎_elim (λ same. inl (only-sound a (answers.FileChanged reader (file_of cell) ∷ []) same))
-    (λ fault. inr (some-sound a (read_faults s h reader (before_failing h cells)) fault))
-    (or_cases (same_answer a (answers.FileChanged reader (file_of cell))) (is_some_of a (read_faults s h reader (before_failing h cells))) e)
+    (λ fault. inr (among-sound a (read_faults s h reader (before_failing h cells)) fault))
+    (or_cases (same_answer a (answers.FileChanged reader (file_of cell))) (is_among a (read_faults s h reader (before_failing h cells))) e)
 
 read-whole : (s : Session) (h : History) (reader : ReaderId) (cells : List Cell) (first : Option Cell) (a : Answer) → IsRead s h reader cells first (a ∷ [])
     → is_read s h reader cells first a ≡ true
-read-whole s h reader cells None a (inl given) = or_first (is_given s h reader cells a) (is_some_of a (read_faults s h reader cells))
+read-whole s h reader cells None a (inl given) = or_first (is_given s h reader cells a) (is_among a (read_faults s h reader cells))
     (given-whole s h reader cells a given)
 read-whole s h reader cells None a (inr fault) =
-    or_second (is_given s h reader cells a) (is_some_of a (read_faults s h reader cells)) (some-whole a (read_faults s h reader cells) fault)
+    or_second (is_given s h reader cells a) (is_among a (read_faults s h reader cells)) (among-whole a (read_faults s h reader cells) fault)
 read-whole s h reader cells (Some cell) a (inl same) =
-    or_first (same_answer a (answers.FileChanged reader (file_of cell))) (is_some_of a (read_faults s h reader (before_failing h cells)))
+    or_first (same_answer a (answers.FileChanged reader (file_of cell))) (is_among a (read_faults s h reader (before_failing h cells)))
     (only-whole a (answers.FileChanged reader (file_of cell) ∷ []) same)
 read-whole s h reader cells (Some cell) a (inr fault) =
-    or_second (same_answer a (answers.FileChanged reader (file_of cell))) (is_some_of a (read_faults s h reader (before_failing h cells)))
-    (some-whole a (read_faults s h reader (before_failing h cells)) fault)
+    or_second (same_answer a (answers.FileChanged reader (file_of cell))) (is_among a (read_faults s h reader (before_failing h cells)))
+    (among-whole a (read_faults s h reader (before_failing h cells)) fault)
 
 next-sound : (s : Session) (h : History) (reader : ReaderId) (open_reader : OpenReader) (more : ℕ) (a : Answer) → is_next s h reader open_reader more a ≡ true
     → IsNext s h reader open_reader more (a ∷ [])

@@ -1,4 +1,5 @@
 pub mod Tests
 pub mod Owed
+pub mod Cells
 pub mod OwnTests
 pub mod Judged

@@ -19,7 +19,7 @@ use Rattle.blob_model.specs.Chunk.{left, chunk, file_of, first_failing, before_f
 use Rattle.blob_model.specs.Value.{agree}
 use Rattle.blob_model.specs.Refusals.{refusal}
 use Rattle.blob_model.specs.Own.{accepted, failing, read_faults, plan_in, IsOwn}
-use Rattle.transcript_audit.specs.Tests.{same_answer, is_among, is_some_of}
+use Rattle.transcript_audit.specs.Tests.{same_answer, is_among}
 
 -- bytes that agree with the cells are given
 abbrev pub is_given : Session → History → ReaderId → List Cell → Answer → Bool
@@ -28,9 +28,9 @@ is_given s h reader cells answer = false
 
 -- a chunk gives its bytes, or its first failing file is named; a page file or a handle before that may fail instead
 abbrev pub is_read : Session → History → ReaderId → List Cell → Option Cell → Answer → Bool
-is_read s h reader cells None answer = is_given s h reader cells answer || is_some_of answer (read_faults s h reader cells)
+is_read s h reader cells None answer = is_given s h reader cells answer || is_among answer (read_faults s h reader cells)
 is_read s h reader cells (Some cell) answer =
-    same_answer answer (answers.FileChanged reader (file_of cell)) || is_some_of answer (read_faults s h reader (before_failing h cells))
+    same_answer answer (answers.FileChanged reader (file_of cell)) || is_among answer (read_faults s h reader (before_failing h cells))
 
 -- where nothing is left of the range the reader is at its end
 abbrev pub is_next : Session → History → ReaderId → OpenReader → ℕ → Answer → Bool

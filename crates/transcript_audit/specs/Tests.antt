@@ -1,9 +1,10 @@
 -- Tests on answers, each of which tells exactly what it is named for. Own.
-use Rattle.std.specs.Prelude.{ℕ, Bool, false, ◌||◌, ◌&&◌, true, Option, Some, List, [], ◌∷◌}
+use Rattle.std.specs.Prelude.{ℕ, ◌==◌, Bool, false, ◌||◌, ◌&&◌, true, Option, Some, List, [], ◌∷◌}
 use Rattle.blob_words.specs.declared.number.PieceNo.{PieceNo}
 use Rattle.blob_words.specs.declared.plan.Plan.{Plan}
 use Rattle.blob_words.specs.declared.plan.Plan.TheVariants as plans
 use Rattle.blob_words.specs.declared.status.Status.{Status}
+use Rattle.blob_words.specs.declared.tally.Tally.{Tally}
 use Rattle.answer_text.specs.declared.answer.Answer.{Answer}
 use Rattle.answer_text.specs.declared.answer.Answer.TheVariants as answers
 use Rattle.answer_text.specs.declared.refusal.Refusal.{Refusal}
@@ -55,11 +56,6 @@ abbrev pub is_file : Option Plan → Bool
 is_file (Some (plans.File n)) = true
 is_file plan = false
 
--- whether the answer is one of these lists, of which there may be none
-abbrev pub is_some_of : Answer → List (List Answer) → Bool
-is_some_of answer [] = false
-is_some_of answer (list ∷ lists) = is_only answer list || is_some_of answer lists
-
 -- whether two lists of answers are one
 abbrev pub same_answers : List Answer → List Answer → Bool
 same_answers [] [] = true
@@ -84,3 +80,7 @@ is_wide (answers.Told name size kind status) = true
 is_wide (answers.Opened reader size kind) = true
 is_wide (answers.Held blobs urls readers waits pages) = true
 is_wide answer = false
+
+-- whether two tallies are one
+abbrev pub same_tally : Tally → Tally → Bool
+same_tally one other = ((one.memory == other.memory) && (one.disk == other.disk)) && ((one.pieces == other.pieces) && (one.files == other.files))

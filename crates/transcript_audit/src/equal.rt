@@ -1,5 +1,5 @@
 //! Whether two words that answers have are one.
-ghost use Rattle.std.specs.Prelude.{◌≡◌, ℕ, List, bytes_eq};
+ghost use Rattle.std.specs.Prelude.{◌≡◌, ◌||◌, ◌&&◌, ℕ, List, bytes_eq};
 ghost use Rattle.transcript_audit.specs.Tests.{same_status, same_plan, same_refusal, same_list};
 
 use answer_text::Refusal;
@@ -42,4 +42,18 @@ pub fn same_pieces(one: &[PieceNo], other: &[PieceNo]) -> bool
     ensures { result ≡ same_list one.now other.now }
 {
     one == other
+}
+
+/// Whether one of two tests passes.
+pub fn either(one: bool, other: bool) -> bool
+    ensures { result ≡ (one || other) }
+{
+    one || other
+}
+
+/// Whether two tests pass.
+pub fn both(one: bool, other: bool) -> bool
+    ensures { result ≡ (one && other) }
+{
+    one && other
 }

@@ -1,10 +1,12 @@
 //! Judges transcripts by the model, and by nothing of the store.
 #![tactic(auto)]
 
+pub mod cells;
 pub mod disk;
 pub mod drops;
 pub mod endings;
 pub mod equal;
+pub mod failing;
 pub mod giving;
 pub mod grants;
 pub mod own;
@@ -14,4 +16,5 @@ pub mod settling;
 pub mod stands;
 pub mod starts;
 pub mod told;
+pub mod values;
 pub mod why;

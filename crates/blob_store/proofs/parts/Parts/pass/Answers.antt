@@ -27,7 +27,8 @@ unfolding IsWhole
 hold-requires c =
     let parts = c.args.self.now in
     stands_below parts.registry c.args.name parts.lines
-    (giver_roots parts c.args.renderer c.args.to c.args.name c.requires.whole c.in-Ok.ensures.none_due) (c.requires.whole.holders.few c.args.name) c.requires.few
+    (giver_roots parts c.args.renderer c.args.to c.args.name c.requires.whole c.in-Ok.ensures.none_due)
+    (c.requires.whole.holders.few c.args.name) c.requires.few
 
 pub returns-in-Ok-clause-whole : goal.returns-in-Ok-clause-whole
 unfolding IsWhole
