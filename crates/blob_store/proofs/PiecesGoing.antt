@@ -46,7 +46,7 @@ item_there shares slot item at = by (share_at shares slot) at
 pub none_goes : (parts : Parts) → PiecesGo parts parts
 none_goes parts = record {
   freed = [];
-  freed_so = record { still = λ slot. same slot (item_at parts.shares slot) refl; weighs = λ weight. refl };
+  freed_so = record { still = λ slot. same slot (item_at parts.shares slot) refl; weighs = λ weight. let none : sum_by weight [] ≡ 0 = refl in omega (arith, none) };
   kept = λ slot some. refl;
   no_range = λ k. refl;
   pages = refl;
@@ -89,7 +89,7 @@ module _ (shares later : List (Option Share)) (slot : ℕ) (result : Option Item
     pub item : 0 < count_at later slot → item_at later slot ≡ item_at shares slot
     pub left : IfSome (item_at later slot) (λ (item : Item). item_at shares slot ≡ Some item)
     pub out : IfSome result (λ (item : Item). item_at shares slot ≡ Some item)
-    pub others : (other : ℕ) → other ≢ slot → share_at later other ≡ share_at shares other
+    pub elsewhere : (other : ℕ) → other ≢ slot → share_at later other ≡ share_at shares other
 
   fewer : Fewer
   fewer = by (share_at shares slot) refl there last others counted
@@ -113,7 +113,7 @@ module _ (shares later : List (Option Share)) (slot : ℕ) (result : Option Item
                     IfSome (option_map (λ (each : Share). each.item) o) (λ (item : Item). item_at shares slot ≡ Some item)) (sym said.1.changed) tt;
                 out = subst (λ (o : Option Item). IfSome o (λ (item : Item). item_at shares slot ≡ Some item)) (sym said.0)
                     (ap (option_map (λ (each : Share). each.item)) at);
-                others = said.1.others;
+                elsewhere = said.1.others;
               }
           go false is =
               let said = others (eqb-false share.count 1 is) in
@@ -126,19 +126,19 @@ module _ (shares later : List (Option Share)) (slot : ℕ) (result : Option Item
                     IfSome (option_map (λ (each : Share). each.item) o) (λ (item : Item). item_at shares slot ≡ Some item)) (sym said.1.changed)
                     (ap (option_map (λ (each : Share). each.item)) at);
                 out = subst (λ (o : Option Item). IfSome o (λ (item : Item). item_at shares slot ≡ Some item)) (sym said.0) tt;
-                others = said.1.others;
+                elsewhere = said.1.others;
               }
 
   pub counts_fewer : (other : ℕ) → count_at later other + cond (slot == other) 1 0 ≡ count_at shares other
   counts_fewer other =
       same_or other slot
       (λ equal. subst (λ (k : ℕ). count_at later k + cond (slot == k) 1 0 ≡ count_at shares k) (sym equal)
-      (let one : cond (slot == slot) 1 0 ≡ 1 = ap {B = ℕ} (λ (b : Bool). cond b 1 0) (eq-eqb slot slot refl) in
+      (let one : cond {A = ℕ} (slot == slot) 1 0 ≡ 1 = ap {B = ℕ} (λ (b : Bool). cond b 1 0) (eq-eqb slot slot refl) in
       let here = fewer.here in omega (arith, one, here)))
-      (λ apart. let none : cond (slot == other) 1 0 ≡ 0 = zero_apart other apart (slot == other) refl in
-      let same = ap counts_of (fewer.others other apart) in omega (arith, none, same))
+      (λ apart. let none : cond {A = ℕ} (slot == other) 1 0 ≡ 0 = zero_apart other apart (slot == other) refl in
+      let same = ap counts_of (fewer.elsewhere other apart) in omega (arith, none, same))
     where
-      zero_apart : (other : ℕ) → other ≢ slot → (b : Bool) → (slot == other) ≡ b → cond b 1 0 ≡ 0
+      zero_apart : (other : ℕ) → other ≢ slot → (b : Bool) → (slot == other) ≡ b → cond {A = ℕ} b 1 0 ≡ 0
       zero_apart other apart true is = absurd (apart (sym (eqb-true slot other is)))
       zero_apart other apart false is = refl
 
@@ -146,14 +146,14 @@ module _ (shares later : List (Option Share)) (slot : ℕ) (result : Option Item
   kept_fewer other some =
       same_or other slot
       (λ equal. subst (λ (k : ℕ). item_at later k ≡ item_at shares k) (sym equal) (fewer.item (subst (λ (k : ℕ). 0 < count_at later k) equal some)))
-      (λ apart. ap (option_map (λ (each : Share). each.item)) (fewer.others other apart))
+      (λ apart. ap (option_map (λ (each : Share). each.item)) (fewer.elsewhere other apart))
 
   pub still_fewer : (other : ℕ) → IfSome (item_at later other) (λ (item : Item). item_at shares other ≡ Some item)
   still_fewer other =
       same_or other slot
       (λ equal. subst (λ (k : ℕ). IfSome (item_at later k) (λ (item : Item). item_at shares k ≡ Some item)) (sym equal) fewer.left)
       (λ apart. subst (λ (o : Option Share).
-      IfSome (option_map (λ (each : Share). each.item) o) (λ (item : Item). item_at shares other ≡ Some item)) (sym (fewer.others other apart))
+      IfSome (option_map (λ (each : Share). each.item) o) (λ (item : Item). item_at shares other ≡ Some item)) (sym (fewer.elsewhere other apart))
       (same (item_at shares other) refl))
     where
       same : (o : Option Item) → item_at shares other ≡ o → IfSome o (λ (item : Item). item_at shares other ≡ Some item)
@@ -179,7 +179,7 @@ pub one_goes : (old new : Parts) (slot : ℕ) (result : Option Item)
     → new.recent ≡ option_map_or (λ (item : Item). left_by old.recent item) result old.recent → PiecesGo old new
 one_goes old new slot None kept still weighs piece pages recent = record {
   freed = [];
-  freed_so = record { still = still; weighs = λ weight. let all = weighs weight in omega (arith, all) };
+  freed_so = record { still = still; weighs = λ weight. let all = weighs weight in let none : sum_by weight [] ≡ 0 = refl in omega (arith, all, none) };
   kept = kept;
   no_range = λ k. refl;
   pages = pages;
@@ -189,10 +189,11 @@ one_goes old new slot (Some item) kept still weighs piece pages recent = record 
   freed = item ∷ [];
   freed_so = record {
     still = still;
-    weighs = λ weight. let all = weighs weight in let sum = sum_by-cons weight item [] in omega (arith, all, sum);
+    weighs = λ weight. let all = weighs weight in let sum = sum_by-cons weight item [] in let none : sum_by weight [] ≡ 0 = refl in omega (arith, all, sum, none);
   };
   kept = kept;
-  no_range = λ k. let sum = sum_by-cons (range_weight k) item [] in let none = no_range_piece item k piece in omega (arith, sum, none);
+  no_range = λ k. let sum = sum_by-cons (range_weight k) item [] in
+      let last : sum_by (range_weight k) [] ≡ 0 = refl in let none = no_range_piece item k piece in omega (arith, sum, none, last);
   pages = pages;
   recent = recent;
 }

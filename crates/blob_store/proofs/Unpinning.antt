@@ -66,7 +66,7 @@ module _ (old parts : Parts) (slots : List ℕ) (i : ℕ) (less : i < length slo
   some_pin : 0 < count_by (λ (one : ℕ). one == slot) (drop i slots)
   some_pin =
       let next = count_next slots i less slot in
-      let one : cond (slot == slot) 1 0 ≡ 1 = ap {B = ℕ} (λ (b : Bool). cond b 1 0) (eq-eqb slot slot refl) in omega (arith, next, one)
+      let one : cond {A = ℕ} (slot == slot) 1 0 ≡ 1 = ap {B = ℕ} (λ (b : Bool). cond b 1 0) (eq-eqb slot slot refl) in omega (arith, next, one)
 
   -- the slot of the next pin holds an item
   pub pin_there : IsSome (share_at parts.shares slot)

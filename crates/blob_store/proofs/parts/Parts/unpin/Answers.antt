@@ -1,13 +1,12 @@
-use Rattle.std.proofs.Common.{rules, ℕ, ◌≡◌, ◌+◌, ◌<◌, ◌≤◌, length, slice_get, sum, IsSomeAnd, [], List, count_by, ◌==◌, ◌-◌, ◌*◌, ◌/◌, ◌%◌, Bool, true, false, nat_eq, nat_lt, ◌∷◌, ◌++◌, slice_index_or, slice_set, bit_and, bit_or, Fits, w8, w32, w64, Bor, MutBor}
-use Rattle.item_shares.specs.Shares.{item_at, HoldsPiece}
-use Rattle.page_disk.specs.declared.change.Change.{Change}
-use Rattle.page_files.specs.Files.{Agrees}
-use Rattle.transport_plan.specs.Spans.{piece_count}
-use Rattle.blob_store.specs.Dropping.{settled_at, ChargedBeside, PiecesGo}
-use Rattle.blob_store.specs.Whole.{IsCharged}
+use Rattle.std.proofs.Common.{◌≡◌, length}
+use Rattle.blob_store.proofs.Unpinning.{one_unpinned}
 use Rattle.blob_store.proofs.parts.Parts.unpin.Goals as goal
 
 -- src/settle/rows.rt:46:9
--- by one_unpinned of Unpinning
 pub loop-slot-preserved : goal.loop-slot-preserved
-loop-slot-preserved c = ?
+loop-slot-preserved c =
+    one_unpinned c.args.self.now c.loop-slot.self c.args.slots.now c.loop-slot.slot-index c.loop-slot-test.true c.loop-slot.invariant
+    c.release-item.result c.release-item.new.self c.release-item.ensures.weighs
+    c.discharge_if.new.quota c.discharge_if.new.pages c.discharge_if.new.recent c.discharge_if.new.held
+    c.release-item.ensures.last c.release-item.ensures.others c.release-item.ensures.counted
+    c.discharge_if.ensures.used c.discharge_if.ensures.pages c.discharge_if.ensures.recent c.discharge_if.ensures.held c.discharge_if.ensures.agrees
