@@ -97,7 +97,7 @@ module _ (number : ℕ) where
   page_item P (Range slot off len) files all = all_as P (Paged_left P (Range slot off len)) (λ held is. (is, refl)) (pieces_at files.pages number) all
   page_item P (Paged piece page off len) files all = go (page.0 == number) refl
     where
-      abbrev now : List Page
+      now : List Page
       now = set files.pages page.0 (released piece (page_at files.pages page.0))
 
       go : (b : Bool) → (page.0 == number) ≡ b → AllByRecursion (Paged_left P (Paged piece page off len)) (pieces_at now number)
