@@ -1,5 +1,3 @@
-use Rattle.blob_store.proofs.ItemsLeft.{items_left, order_left}
-use Rattle.blob_store.proofs.Settling.{charged_beside, charged_again}
 use Rattle.blob_store.proofs.Settling.{written_back}
 use Rattle.std.proofs.Common.{rules, ℕ, ◌≡◌, ◌+◌, ◌<◌, ◌≤◌, length, slice_get, sum, IsSomeAnd, [], List, count_by, ◌==◌, ◌-◌, ◌*◌, ◌/◌, ◌%◌, Bool, true, false, nat_eq, nat_lt, ◌∷◌, ◌++◌, slice_index_or, slice_set, bit_and, bit_or, Fits, w8, w32, w64, Bor, MutBor}
 use Rattle.item_shares.specs.Shares.{item_at, HoldsPiece}
