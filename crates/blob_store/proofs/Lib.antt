@@ -25,7 +25,6 @@ pub mod Slots
 pub mod Settling
 pub mod PiecesGoing
 pub mod Unpinning
-pub mod ItemsLeft
 pub mod Weighing
 pub mod Refused
 pub mod Putting
