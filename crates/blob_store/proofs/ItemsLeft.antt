@@ -222,12 +222,14 @@ module _ (piece : ℕ) (test : Held → Bool) (own : (held : Held) → test held
   stays_fold : (freed : List Item) (files : Files) → list_any (is_of piece) freed ≡ false → list_any test (pieces_at files.pages page) ≡ true
       → list_any test (pieces_at (fold let_go_by files freed).pages page) ≡ true
   stays_fold [] files none e = e
-  stays_fold (item ∷ freed) files none e = go (is_of piece item) refl none
+  stays_fold (item ∷ freed) files none e = go (is_of piece item) refl none (λ next rest. stays_fold freed (let_go_by files item) rest next)
     where
       go : (b : Bool) → is_of piece item ≡ b → (b || list_any (is_of piece) freed) ≡ false
+          → (list_any test (pieces_at (let_go_by files item).pages page) ≡ true → list_any (is_of piece) freed ≡ false
+          → list_any test (pieces_at (fold let_go_by files (item ∷ freed)).pages page) ≡ true)
           → list_any test (pieces_at (fold let_go_by files (item ∷ freed)).pages page) ≡ true
-      go true at none = absurd (false_true (sym none))
-      go false at none = stays_fold freed (let_go_by files item) none (stays_item item files at e)
+      go true at none more = absurd (false_true (sym none))
+      go false at none more = more (stays_item item files at e) none
 
 -- ---- the job moves pieces out of the same page file
 
@@ -400,7 +402,7 @@ module _ (homes : List ℕ) (files : Files) (shares later : List (Option Share))
           by (Some (Range slot off len)) at is = absurd is
           by (Some (Paged piece page off len)) at is =
               let same : Paged piece page off len ≡ Paged held.piece (page_no number) held.off held.len =
-              λ i. Paged (is.0 i) (is.1.0 i) (is.1.1.0 i) (is.1.1.1 i) in
+              λ i. Paged (is.0 i) (is.1 i) (is.2 i) (is.3 i) in
               subst (λ (o : Option Item). IsSomeAnd o (IsPagedOf (page_no number) held)) (sym (paged_stays number held (at ∙ ap Some same) none))
               (refl, refl, refl, refl)
 

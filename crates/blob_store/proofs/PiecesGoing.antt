@@ -46,7 +46,10 @@ item_there shares slot item at = by (share_at shares slot) at
 pub none_goes : (parts : Parts) → PiecesGo parts parts
 none_goes parts = record {
   freed = [];
-  freed_so = record { still = λ slot. same slot (item_at parts.shares slot) refl; weighs = λ weight. let none : sum_by weight [] ≡ 0 = refl in omega (arith, none) };
+  freed_so = record {
+    still = λ slot. same slot (item_at parts.shares slot) refl;
+    weighs = λ weight. let none : sum_by weight [] ≡ 0 = refl in omega (arith, none);
+  };
   kept = λ slot some. refl;
   no_range = λ k. refl;
   pages = refl;
@@ -189,7 +192,9 @@ one_goes old new slot (Some item) kept still weighs piece pages recent = record 
   freed = item ∷ [];
   freed_so = record {
     still = still;
-    weighs = λ weight. let all = weighs weight in let sum = sum_by-cons weight item [] in let none : sum_by weight [] ≡ 0 = refl in omega (arith, all, sum, none);
+    weighs = λ weight.
+        let all = weighs weight in
+        let sum = sum_by-cons weight item [] in let none : sum_by weight [] ≡ 0 = refl in omega (arith, all, sum, none);
   };
   kept = kept;
   no_range = λ k. let sum = sum_by-cons (range_weight k) item [] in

@@ -58,7 +58,7 @@ sum_settled f (one ∷ rows) zero row at =
 sum_settled f (one ∷ rows) (suc number) row at =
     let was : sum_by f (one ∷ rows) ≡ f one + sum_by f rows = sum_by-cons f one rows in
     let now : sum_by f (settled_at (suc number) (one ∷ rows)) ≡ f one + sum_by f (settled_at number rows) =
-        ap (λ (list : List Row). sum_by f list) (settled_cons one rows number) ∙ sum_by-cons f one (settled_at number rows) in
+    ap (λ (list : List Row). sum_by f list) (settled_cons one rows number) ∙ sum_by-cons f one (settled_at number rows) in
     let more = sum_settled f rows number row at in omega (arith, was, now, more)
 
 -- how often a slot is among those of one blob
@@ -69,7 +69,7 @@ pins_sum : (slot : ℕ) (rows : List Row) → pins slot rows ≡ sum_by (pins_of
 pins_sum slot [] = refl
 pins_sum slot (row ∷ rows) =
     let parted : pins slot (row ∷ rows) ≡ pins_of slot row + pins slot rows =
-        sum_by-append (λ (one : ℕ). cond (one == slot) 1 0) (sending_slots row.sending) (flat_map (λ (each : Row). sending_slots each.sending) rows) in
+    sum_by-append (λ (one : ℕ). cond (one == slot) 1 0) (sending_slots row.sending) (flat_map (λ (each : Row). sending_slots each.sending) rows) in
     let all = sum_by-cons (pins_of slot) row rows in
     let more = pins_sum slot rows in omega (arith, parted, all, more)
 
