@@ -3,6 +3,7 @@
 //! begins a table anew is not shown. A line that names nothing of these is shown as it is.
 #![tactic(auto)]
 
+mod disks;
 mod files;
 mod folder;
 mod memory;
@@ -10,6 +11,7 @@ mod objects;
 mod outside;
 mod renderers;
 mod slots;
+mod tables;
 mod urls;
 
 use crate::outside::Outside;
