@@ -145,8 +145,8 @@ pub fn swept_stands()
     ensures { SweptStands }
 {}
 
-/// The names that a sweep drops are the drops owed, and behind them what is left of the parts and of
-/// the data handles stands, with the live blobs and no others.
+/// The names that a sweep drops are the drops owed, and behind them what is left of the parts and
+/// of the data handles stands, with the live blobs and no others.
 pub fn drops_stand()
     ensures { DropsStand }
 {}
