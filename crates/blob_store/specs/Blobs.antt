@@ -1,5 +1,5 @@
 -- What the entries of a store keep with the items that they view, and with the rows beside them. Own.
-use Rattle.std.specs.Prelude.{ℕ, ◌≡◌, ◌+◌, ◌<◌, ◌≤◌, Bool, false, true, List, filter, flat_map, length, slice_get, slice_index, Option, None, Some, IfSome, IsSomeAnd}
+use Rattle.std.specs.Prelude.{ℕ, ◌≡◌, ◌+◌, ◌<◌, ◌≤◌, Bool, false, true, List, filter, flat_map, length, slice_get, slice_index, Option, None, Some, IfSome, IsSome, IsSomeAnd}
 use Rattle.std.specs.List.{AllByRecursion}
 use Rattle.blob_words.specs.declared.status.Status.{Status}
 use Rattle.blob_words.specs.declared.status.Status.TheVariants.{PendingQuota, PendingTransport}
@@ -17,6 +17,8 @@ use Rattle.blob_entries.specs.Names.{number_of}
 use Rattle.blob_entries.specs.Statuses.{is_pending}
 use Rattle.blob_entries.specs.Weights.{cut_weight}
 use Rattle.blob_entries.specs.declared.entry.Entry.{Entry}
+use Rattle.blob_entries.specs.declared.step.Step.{Step}
+use Rattle.blob_entries.specs.declared.step.Step.TheVariants.{Own, Fixed, Source}
 use Rattle.page_files.specs.Files.{Files}
 use Rattle.quota_queue.specs.Queue.{Queue}
 use Rattle.recent_items.specs.Recent.{is_there}
@@ -44,6 +46,15 @@ IsThere item = Unit {0}
 pub record Views (shares : List (Option Share)) (entry : Entry) : Type 0 where
   pub inside : AllByRecursion (IsInside shares) (held_views entry)
   pub there : AllByRecursion (λ (view : View). IfSome (item_at shares view.slot) IsThere) entry.views
+
+-- each blob that a step is of was built
+abbrev pub IsKnown : List ℕ → Step → Type 0
+IsKnown names (Own piece len) = Unit {0}
+IsKnown names (Fixed view) = Unit {0}
+IsKnown names (Source name off len) = IsSome (number_of name names)
+
+abbrev pub AreKnown : List ℕ → Entry → Type 0
+AreKnown names entry = AllByRecursion (IsKnown names) entry.recipe
 
 -- the weights of the blobs bound the views that each entry has or will have
 abbrev pub AreWeighed : Book → List ℕ → Type 0
@@ -95,4 +106,5 @@ pub record Blobs (page : ℕ) (book : Book) (shares : List (Option Share)) (rows
   pub each_row : length rows ≡ length book.names
   pub awaited : (number : ℕ) → IfSome (slice_get rows number) (IsAwaited page order (entry_at book.entries number))
   pub waits : quota.waiting ≡ waiting book.names rows
+  pub known : (number : ℕ) → IfSome (entry_at book.entries number) (AreKnown book.names)
   pub weighed : AreWeighed book (row_weights rows)
