@@ -26,4 +26,5 @@ pub mod Weighing
 pub mod Refused
 pub mod Putting
 pub mod Arriving
+pub mod OwnPieces
 pub mod HeardJobs

@@ -17,3 +17,6 @@ pub mod NewItems
 pub mod Putting
 pub mod Arriving
 pub mod NewBlobs
+pub mod Laying
+pub mod Entering
+pub mod Claiming

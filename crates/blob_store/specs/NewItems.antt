@@ -1,5 +1,5 @@
 -- The items of a blob that comes: of its pieces, and of its ranges. Own.
-use Rattle.std.specs.Prelude.{ℕ, zero, suc, ◌+◌, ◌<◌, ◌≤◌, List, [], ◌∷◌, flat_map}
+use Rattle.std.specs.Prelude.{ℕ, zero, suc, ◌+◌, ◌<◌, ◌≤◌, List, [], ◌∷◌, flat_map, map}
 use Rattle.session_script.specs.declared.event.Part.{Part}
 use Rattle.session_script.specs.declared.event.Part.TheVariants.{Embedded, Asked, FileRange, BlobRange, HandleRange}
 use Rattle.item_shares.specs.declared.item.Item.{Item}
@@ -7,7 +7,10 @@ use Rattle.item_shares.specs.declared.item.Item.TheVariants.{Memory, Reserved, F
 use Rattle.blob_entries.specs.declared.step.Step.{Step}
 use Rattle.blob_entries.specs.declared.step.Step.TheVariants.{Fixed}
 use Rattle.blob_items.specs.declared.view.View.{View}
+use Rattle.blob_model.specs.Parts.{embedded, own_lengths}
+use Rattle.segment_assembly.specs.Assembly.{bytes_at}
 use Rattle.store_laws.specs.PartLaws.{piece_no}
+use Rattle.transport_plan.specs.Spans.{piece_spans}
 
 -- pieces with these bytes in memory, numbered from `number`
 abbrev pub memory_items : ℕ → List (List ℕ) → List Item
@@ -50,3 +53,7 @@ range_rest (suc len) (view ∷ views) = views
 -- the number of bytes of a span
 abbrev pub span_length : ℕ × ℕ → ℕ
 span_length span = span.1
+
+-- the own pieces of parts all of whose bytes are in the line
+abbrev pub inline_items : ℕ → ℕ → List Part → List Item
+inline_items page number parts = memory_items number (map (bytes_at (embedded parts)) (piece_spans page 0 (own_lengths parts)))

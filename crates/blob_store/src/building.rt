@@ -1,6 +1,11 @@
-//! What a line that builds puts into the store: items under slots, and the recipe of its parts.
+//! What a line that builds puts into the store: items under slots, the recipe of its parts, an
+//! entry and a row.
 
+mod claiming;
+pub mod entering;
+mod homes;
 mod law;
+pub mod laying;
 mod own;
 mod putting;
 mod ranges;

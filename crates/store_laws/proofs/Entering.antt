@@ -171,7 +171,7 @@ sources_made page number views (HandleRange k off zero ∷ parts) = sources_made
 sources_made page number [] (HandleRange k off (suc len) ∷ parts) = sources_made page number [] parts
 sources_made page number (view ∷ views) (HandleRange k off (suc len) ∷ parts) = sources_made page number views parts
 
-lengths_all : (page from : ℕ) (list : List ℕ) → map (λ (span : ℕ × ℕ). span.1) (piece_spans page from list) ≡ flat_map (piece_lengths page) list
+pub lengths_all : (page from : ℕ) (list : List ℕ) → map (λ (span : ℕ × ℕ). span.1) (piece_spans page from list) ≡ flat_map (piece_lengths page) list
 lengths_all page from [] = refl
 lengths_all page from (len ∷ list) =
     map-append (λ (span : ℕ × ℕ). span.1) (cut_spans page from len) (piece_spans page (from + len) list)

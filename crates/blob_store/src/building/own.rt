@@ -1,14 +1,18 @@
 //! The items of a blob's own pieces.
 ghost use Rattle.std.specs.Prelude.{◌≡◌, ◌+◌, ◌<◌, ◌≤◌, ◌^◌, length, map, sum_by, IfOk};
 ghost use Rattle.std.specs.List.{AllByRecursion};
-ghost use Rattle.blob_model.specs.Parts.{embedded};
+ghost use Rattle.blob_model.specs.Parts.{embedded, own_bytes, own_lengths};
 ghost use Rattle.segment_assembly.specs.Assembly.{bytes_at};
-ghost use Rattle.blob_store.specs.NewItems.{memory_items, reserved_items, span_length, IsSpanIn};
+ghost use Rattle.transport_plan.specs.Spans.{piece_count};
+ghost use Rattle.store_laws.specs.EntryLaws.{all_lengths, AreBrought};
+ghost use Rattle.blob_store.specs.NewItems.{inline_items, memory_items, reserved_items, span_length, IsSpanIn};
 ghost use Rattle.blob_store.specs.Putting.{ArePut};
 
 use super::putting::put_item;
 use blob_items::ViewList;
 use blob_words::{NoMemory, Octets, PieceNo};
+use history_notions::parts::own_lengths;
+use history_notions::pieces::piece_spans;
 use item_shares::{Item, Shares};
 use session_script::Part;
 use std::alloc::Global;
@@ -73,5 +77,49 @@ pub fn put_reserved(
         put_item(shares, Item::Reserved { piece, len: span.1 }, &mut views)?;
         number += 1;
     }
+    Ok(views)
+}
+
+/// The own pieces of parts in memory, where the line has all their bytes, numbered from `first`.
+pub fn put_inline(
+    alloc: Global,
+    shares: &mut Shares,
+    page: u64,
+    first: u32,
+    parts: &[Part],
+) -> Result<ViewList, NoMemory>
+    requires page { 0 < page }
+    requires few { first + piece_count page (own_lengths parts.now) < 2 ^ 32 }
+    requires fits { own_bytes parts.now ≤ 2 ^ 62 }
+    requires told { own_bytes parts.now ≤ length (embedded parts.now) }
+    ensures put { IfOk result
+        (λ views. ArePut shares.old (inline_items page first parts.now) views shares.new) }
+    ensures brought { IfOk result
+        (λ views. AreBrought shares.new first (all_lengths page parts.now) views) }
+{
+    let bytes = embedded(alloc, parts)?;
+    let lengths = own_lengths(alloc, parts)?;
+    let spans = piece_spans(alloc, page, lengths.as_slice())?;
+    let views = put_memory(alloc, shares, first, bytes.as_slice(), spans.as_slice())?;
+    Ok(views)
+}
+
+/// The own pieces of parts, for which room in page files is reserved, numbered from `first`.
+pub fn put_filed(
+    alloc: Global,
+    shares: &mut Shares,
+    page: u64,
+    first: u32,
+    parts: &[Part],
+) -> Result<ViewList, NoMemory>
+    requires page { 0 < page }
+    requires few { first + piece_count page (own_lengths parts.now) < 2 ^ 32 }
+    requires fits { own_bytes parts.now ≤ 2 ^ 62 }
+    ensures { IfOk result (λ views. ArePut shares.old
+        (reserved_items first (all_lengths page parts.now)) views shares.new) }
+{
+    let lengths = own_lengths(alloc, parts)?;
+    let spans = piece_spans(alloc, page, lengths.as_slice())?;
+    let views = put_reserved(alloc, shares, first, spans.as_slice())?;
     Ok(views)
 }
