@@ -28,3 +28,5 @@ pub mod Putting
 pub mod Arriving
 pub mod OwnPieces
 pub mod HeardJobs
+pub mod Claiming
+pub mod Entering

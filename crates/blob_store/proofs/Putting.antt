@@ -141,6 +141,73 @@ put_more old mid new items item views view put none changes weighs all = record 
         let one : one_at view.slot slot ≡ 0 = ap (λ (b : Bool). cond b 1 0) is in
         omega (arith, on_append slot views (view ∷ []), on_cons slot view [], one, put.once slot)
 
+-- a slot of these views held nothing
+seen_vacant : (shares : List (Option Share)) (slot : ℕ) (views : List View) → AllByRecursion (λ (view : View). share_at shares view.slot ≡ None) views
+    → is_seen slot views ≡ true → share_at shares slot ≡ None
+seen_vacant shares slot [] vacant seen = absurd (cc seen)
+seen_vacant shares slot (view ∷ views) vacant seen = by (seen_vacant shares slot views vacant.1) (view.slot == slot) refl seen
+  where
+    by : (is_seen slot views ≡ true → share_at shares slot ≡ None) → (b : Bool) → (view.slot == slot) ≡ b → (b || is_seen slot views) ≡ true
+        → share_at shares slot ≡ None
+    by behind true is seen = subst (λ (n : ℕ). share_at shares n ≡ None) (eqb-true view.slot slot is) vacant.0
+    by behind false is seen = behind seen
+
+-- items that come later leave those that came where they are
+still_held : (mid new : List (Option Share)) (later : List View) (views : List View) (items : List Item)
+    → AllByRecursion (λ (view : View). share_at mid view.slot ≡ None) later
+    → ((slot : ℕ) → is_seen slot later ≡ false → share_at new slot ≡ share_at mid slot) → shares_seen mid views ≡ map fresh_share items
+    → shares_seen new views ≡ map fresh_share items
+still_held mid new later [] items vacant others same = same
+still_held mid new later (view ∷ views) [] vacant others same = absurd (cc same)
+still_held mid new later (view ∷ views) (item ∷ items) vacant others same =
+    by (is_seen view.slot later) refl (still_held mid new later views items vacant others)
+  where
+    here : share_at mid view.slot ≡ fresh_share item
+    here = cc same
+
+    rest : shares_seen mid views ≡ map fresh_share items
+    rest = cc same
+
+    by : (b : Bool) → is_seen view.slot later ≡ b → (shares_seen mid views ≡ map fresh_share items → shares_seen new views ≡ map fresh_share items)
+        → shares_seen new (view ∷ views) ≡ map fresh_share (item ∷ items)
+    by true seen behind = absurd (cc (here, seen_vacant mid view.slot later vacant seen))
+    by false away behind =
+        ap (λ (one : Option Share). one ∷ shares_seen new views) (others view.slot away ∙ here)
+        ∙ ap (λ (list : List (Option Share)). fresh_share item ∷ list) (behind rest)
+
+-- slots that were free later were free before
+vacant_before : (old mid : List (Option Share)) (items : List Item) (views later : List View) → ArePut old items views mid
+    → AllByRecursion (λ (view : View). share_at mid view.slot ≡ None) later → AllByRecursion (λ (view : View). share_at old view.slot ≡ None) later
+vacant_before old mid items views [] put vacant = tt
+vacant_before old mid items views (view ∷ later) put vacant =
+    (sym (put.others view.slot (unseen mid view.slot views items put.held vacant.0)) ∙ vacant.0, vacant_before old mid items views later put vacant.1)
+
+-- items come behind others
+pub put_join : (old mid new : List (Option Share)) (items more : List Item) (views later : List View) → ArePut old items views mid
+    → ArePut mid more later new → ArePut old (items ++ more) (views ++ later) new
+put_join old mid new items more views later first next = record {
+  held =
+      map-append (λ (one : View). share_at new one.slot) views later
+      ∙ ap (λ (list : List (Option Share)). list ++ shares_seen new later) (still_held mid new later views items next.vacant next.others first.held)
+      ∙ ap (λ (list : List (Option Share)). map fresh_share items ++ list) next.held ∙ sym (map-append fresh_share items more);
+  whole =
+      map-append span views later ∙ ap (λ (list : List (ℕ × ℕ)). list ++ map span later) first.whole
+      ∙ ap (λ (list : List (ℕ × ℕ)). map whole_item items ++ list) next.whole ∙ sym (map-append whole_item items more);
+  vacant = all_append (λ (one : View). share_at old one.slot ≡ None) views later first.vacant
+      (vacant_before old mid items views later first next.vacant);
+  others = λ slot apart. let both = neither (is_seen slot views) (is_seen slot later)
+      (sym (list_any-append (λ (one : View). one.slot == slot) views later) ∙ apart) in
+      next.others slot both.1 ∙ first.others slot both.0;
+  once = λ slot. by slot (is_seen slot later) refl;
+  weighs = λ weight. omega (arith, next.weighs weight, first.weighs weight, sum_by-append weight items more);
+}
+  where
+    by : (slot : ℕ) (b : Bool) → is_seen slot later ≡ b → views_on slot (views ++ later) ≤ 1
+    by slot true seen =
+        let away : is_seen slot views ≡ false = unseen mid slot views items first.held (seen_vacant mid slot later next.vacant seen) in
+        omega (arith, on_append slot views later, on_none slot views away, next.once slot)
+    by slot false away = omega (arith, on_append slot views later, on_none slot later away, first.once slot)
+
 -- ---- lists
 
 pub all_at : {X : Type 0} (P : X → Type 0) (xs : List X) (i : ℕ) (d : X) → i < length xs → AllByRecursion P xs → P (get_or xs i d)

@@ -19,7 +19,7 @@ pub fn push_homes(homes: &mut ItemList<usize>, views: &[View]) -> Result<(), NoM
 pub fn push_homeless(homes: &mut ItemList<usize>, count: u64) -> Result<(), NoMemory>
     ensures { OnOk result (homes.new ≡ homes.old ++ replicate count 0) }
 {
-    for _ in 0..count {
+    for done in 0..count {
         homes.push(0)?;
     }
     Ok(())
