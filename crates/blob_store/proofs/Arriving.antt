@@ -15,8 +15,9 @@ use Rattle.store_laws.specs.BuildLaws.{AreAdded, IsNew}
 use Rattle.store_laws.specs.EntryLaws.{AreBrought}
 use Rattle.store_laws.specs.Items.{AreOnePerPiece, Facts, item_length, piece_of_item}
 use Rattle.store_laws.specs.PartLaws.{AreRanges, IsAll}
-use Rattle.blob_store.specs.NewItems.{memory_items, range_items}
+use Rattle.blob_store.specs.NewItems.{memory_items, range_items, reserved_items}
 use Rattle.blob_store.specs.Putting.{ArePut, is_seen, span}
+use Rattle.blob_store.proofs.Putting.{seen_vacant}
 
 abbrev fresh : Item → Option Share
 fresh item = Some (share_of item 1)
@@ -74,6 +75,18 @@ module _ (shares : List (Option Share)) where
     memory_brought (number + 1) pieces views (rest_of _ _ _ _ is) (rest_of _ _ _ _ long),
   )
 
+  pub reserved_brought : (number : ℕ) (lengths : List ℕ) (views : List View) → seen shares views ≡ map fresh (reserved_items number lengths)
+      → map span views ≡ map whole (reserved_items number lengths) → AreBrought shares number lengths views
+  reserved_brought number [] [] is long = tt
+  reserved_brought number [] (view ∷ views) is long = absurd (cc is)
+  reserved_brought number (len ∷ lengths) [] is long = absurd (cc is)
+  reserved_brought number (len ∷ lengths) (view ∷ views) is long = (
+    all_of view len (first_of _ _ _ _ long),
+    subst (λ (one : Option Item). IsSomeAnd one (λ (item : Item). (piece_of_item item ≡ Some number) × (item_length item ≡ len)))
+        (sym (held shares view.slot (Reserved (record { 0 = number }) len) (first_of _ _ _ _ is))) (refl, refl),
+    reserved_brought (number + 1) lengths views (rest_of _ _ _ _ is) (rest_of _ _ _ _ long),
+  )
+
 -- ---- items that came are added
 
 pub put_ranges_held : (old new : List (Option Share)) (parts : List Part) (views : List View) → ArePut old (range_items parts) views new
@@ -85,16 +98,6 @@ same_item here None is = tt
 same_item here (Some item) is = is
 
 module _ (all : List Piece) (facts : Facts) (count : ℕ) (old new : List (Option Share)) where
-  seen_vacant : (slot : ℕ) (views : List View) → AllByRecursion (λ (view : View). share_at old view.slot ≡ None) views → is_seen slot views ≡ true
-      → share_at old slot ≡ None
-  seen_vacant slot [] vacant is = absurd (cc is)
-  seen_vacant slot (view ∷ views) vacant is = by (seen_vacant slot views vacant.1) (view.slot == slot) refl is
-    where
-      by : (is_seen slot views ≡ true → share_at old slot ≡ None) → (b : Bool) → (view.slot == slot) ≡ b → (b || is_seen slot views) ≡ true
-          → share_at old slot ≡ None
-      by behind true same is = subst (λ (n : ℕ). share_at old n ≡ None) (eqb-true view.slot slot same) vacant.0
-      by behind false same is = behind is
-
   seen_new : (slot : ℕ) (views : List View) (items : List Item) → seen new views ≡ map fresh items → AllByRecursion (IsNew all facts count) items
       → is_seen slot views ≡ true → IfSome (item_at new slot) (IsNew all facts count)
   seen_new slot [] items is news at = absurd (cc at)
@@ -123,7 +126,7 @@ module _ (all : List Piece) (facts : Facts) (count : ℕ) (old new : List (Optio
       kept : (slot : ℕ) (b : Bool) → is_seen slot views ≡ b → IfSome (item_at old slot) (λ (item : Item). item_at new slot ≡ Some item)
       kept slot true at =
           subst (λ (one : Option Share). IfSome (option_map (λ (share : Share). share.item) one) (λ (item : Item). item_at new slot ≡ Some item))
-          (sym (seen_vacant slot views put.vacant at)) tt
+          (sym (seen_vacant old slot views put.vacant at)) tt
       kept slot false at = same_item (item_at new slot) (item_at old slot) (item_same slot at)
 
       added : (slot : ℕ) → item_at old slot ≡ None → (b : Bool) → is_seen slot views ≡ b → IfSome (item_at new slot) (IsNew all facts count)

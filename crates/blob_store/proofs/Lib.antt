@@ -30,3 +30,4 @@ pub mod OwnPieces
 pub mod HeardJobs
 pub mod Claiming
 pub mod Entering
+pub mod Laying

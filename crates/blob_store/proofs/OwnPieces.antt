@@ -1,6 +1,7 @@
 -- The spans of own pieces lie inside the own bytes, and are as long as the pieces.
-use Rattle.std.proofs.Common.{◌≡◌, ℕ, ◌+◌, ◌<◌, ◌≤◌, List, [], ◌∷◌, length, map, sum, sum_by, refl, ap, subst, ◌∙◌, Option, arith}
+use Rattle.std.proofs.Common.{◌≡◌, ℕ, suc, ◌+◌, ◌<◌, ◌≤◌, List, [], ◌∷◌, length, map, sum, sum_by, refl, sym, ap, subst, ◌∙◌, Option, arith}
 use Rattle.std.specs.List.{AllByRecursion}
+use Rattle.std.proofs.lemmas.List.{length-map}
 use Rattle.item_shares.specs.declared.shares.Share.{Share}
 use Rattle.blob_items.specs.declared.view.View.{View}
 use Rattle.session_script.specs.declared.event.Part.{Part}
@@ -32,6 +33,14 @@ bytes_lengths bytes (span ∷ spans) inside =
     ap (λ (len : ℕ). len ∷ map (λ (piece : List ℕ). length piece) (map (bytes_at bytes) spans)) (bytes_long bytes span inside.0.1)
     ∙ ap (λ (list : List ℕ). span.1 ∷ list) (bytes_lengths bytes spans inside.1)
 
+brought_many : (shares : List (Option Share)) (number : ℕ) (lengths : List ℕ) (views : List View) → AreBrought shares number lengths views
+    → length views ≡ length lengths
+brought_many shares number [] [] brought = refl
+brought_many shares number [] (view ∷ views) brought = absurd brought
+brought_many shares number (len ∷ lengths) [] brought = absurd brought
+brought_many shares number (len ∷ lengths) (view ∷ views) brought =
+    ap (λ (n : ℕ). suc n) (brought_many shares (number + 1) lengths views brought.2)
+
 module _ (page : ℕ) (parts : List Part) where
   abbrev own_spans : List (ℕ × ℕ)
   own_spans = piece_spans page 0 (own_lengths parts)
@@ -55,6 +64,13 @@ module _ (page : ℕ) (parts : List Part) where
 
   pub spans_lengths : map span_length own_spans ≡ all_lengths page parts
   spans_lengths = lengths_all page 0 (own_lengths parts)
+
+  -- there is a view for each own piece
+  pub many_brought : (first : ℕ) (shares : List (Option Share)) (views : List View) → AreBrought shares first (all_lengths page parts) views
+      → length views ≡ piece_count page (own_lengths parts)
+  many_brought first shares views brought =
+      brought_many shares first (all_lengths page parts) views brought ∙ ap (λ (list : List ℕ). length list) (sym spans_lengths)
+      ∙ length-map own_spans span_length ∙ spans_few
 
   -- the slots hold the own pieces, where the line has their bytes
   pub inline_brought : (first : ℕ) (old new : List (Option Share)) (views : List View) → 0 < page → own_bytes parts ≤ length (embedded parts)

@@ -142,7 +142,7 @@ put_more old mid new items item views view put none changes weighs all = record 
         omega (arith, on_append slot views (view ∷ []), on_cons slot view [], one, put.once slot)
 
 -- a slot of these views held nothing
-seen_vacant : (shares : List (Option Share)) (slot : ℕ) (views : List View) → AllByRecursion (λ (view : View). share_at shares view.slot ≡ None) views
+pub seen_vacant : (shares : List (Option Share)) (slot : ℕ) (views : List View) → AllByRecursion (λ (view : View). share_at shares view.slot ≡ None) views
     → is_seen slot views ≡ true → share_at shares slot ≡ None
 seen_vacant shares slot [] vacant seen = absurd (cc seen)
 seen_vacant shares slot (view ∷ views) vacant seen = by (seen_vacant shares slot views vacant.1) (view.slot == slot) refl seen
@@ -153,7 +153,7 @@ seen_vacant shares slot (view ∷ views) vacant seen = by (seen_vacant shares sl
     by behind false is seen = behind seen
 
 -- items that come later leave those that came where they are
-still_held : (mid new : List (Option Share)) (later : List View) (views : List View) (items : List Item)
+pub still_held : (mid new : List (Option Share)) (later : List View) (views : List View) (items : List Item)
     → AllByRecursion (λ (view : View). share_at mid view.slot ≡ None) later
     → ((slot : ℕ) → is_seen slot later ≡ false → share_at new slot ≡ share_at mid slot) → shares_seen mid views ≡ map fresh_share items
     → shares_seen new views ≡ map fresh_share items

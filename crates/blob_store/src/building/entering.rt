@@ -2,7 +2,7 @@
 ghost use Rattle.std.specs.Prelude.{◌≡◌, ◌+◌, ◌<◌, ◌≤◌, ◌^◌, None, length, IfOk, IsSome, OnOk};
 ghost use Rattle.blob_entries.specs.Names.{number_of};
 ghost use Rattle.blob_model.specs.Parts.{own_lengths, parts_length};
-ghost use Rattle.blob_registry.specs.Registering.{CanRegister};
+ghost use Rattle.blob_registry.specs.Registering.{pushed, CanRegister};
 ghost use Rattle.renderer_table.specs.Table.{count_of, living_of};
 ghost use Rattle.transport_plan.specs.Spans.{piece_count};
 ghost use Rattle.blob_store.specs.Entering.{arrival_by, arrived, broken_arrival, own_by, status_by, AreAtHand, Enters};
@@ -13,6 +13,7 @@ use crate::parts::Parts;
 use crate::row::{Row, Sending};
 use blob_entries::Recipe;
 use blob_items::ViewList;
+use blob_registry::Registry;
 use blob_words::{BlobName, NoMemory, Plan, RendererId, Status};
 use history_notions::parts::{own_lengths, parts_length};
 use session_script::Part;
@@ -48,6 +49,40 @@ fn own_by(plan: Plan, pieces: ViewList) -> Option<ViewList>
         Plan::Shared(_) | Plan::File(_) => None,
         _ => Some(pieces),
     }
+}
+
+// A blob comes under the next build number, which its builder holds; its row is handed back.
+fn register(
+    registry: &mut Registry,
+    owner: RendererId,
+    name: BlobName,
+    kind: &[u8],
+    arrival: Arrival,
+) -> Result<Row, NoMemory>
+    requires fresh { number_of name registry.old.names ≡ None }
+    requires can { CanRegister registry.old arrival.size arrival.recipe arrival.status }
+    requires at_hand { AreAtHand arrival arrival.own }
+    ensures entry { IfOk result (λ row.
+        registry.new ≡ pushed registry.old name (arrived owner kind.now arrival)) }
+    ensures row { IfOk result (λ row. row ≡ arrival.row) }
+{
+    let Arrival {
+        size,
+        recipe,
+        status,
+        own,
+        row,
+    } = arrival;
+    let _count = registry.registered(); // says that there are as many names as entries
+    // the name is new, and there are fewer blobs than there may be: only memory can want
+    let Ok(()) = registry.register(name, owner, size, kind, recipe, status) else {
+        return Err(NoMemory);
+    };
+    if let Some(own) = own {
+        registry.bring(name, own);
+    }
+    registry.hold(name);
+    Ok(row)
 }
 
 impl Parts {
@@ -123,25 +158,7 @@ impl Parts {
         ensures { OnOk result (Enters renderer name (arrived renderer kind.now arrival) arrival.row
             self.old self.new) }
     {
-        let Arrival {
-            size,
-            recipe,
-            status,
-            own,
-            row,
-        } = arrival;
-        // the name is new, and there are fewer blobs than there may be: only memory can want
-        if self
-            .registry
-            .register(name, renderer, size, kind, recipe, status)
-            .is_err()
-        {
-            return Err(NoMemory);
-        }
-        if let Some(own) = own {
-            self.registry.bring(name, own);
-        }
-        self.registry.hold(name);
+        let row = register(&mut self.registry, renderer, name, kind, arrival)?;
         self.renderers.add_one(renderer, name)?;
         self.weight += row.weight;
         self.rows.push(row)?;

@@ -89,6 +89,8 @@ impl Parts {
         ensures put { IfOk result (λ views. ArePut self.old.shares
             (reserved_items (first_piece self.old)
             (all_lengths self.old.limits.page parts.now)) views self.new.shares) }
+        ensures brought { IfOk result (λ views. AreBrought self.new.shares (first_piece self.old)
+            (all_lengths self.old.limits.page parts.now) views) }
         ensures rest { IfOk result (λ views. self.new ≡ record self.old {
           shares = self.new.shares;
           homes = self.old.homes ++ map slot_of views;

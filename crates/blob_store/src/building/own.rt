@@ -115,8 +115,10 @@ pub fn put_filed(
     requires page { 0 < page }
     requires few { first + piece_count page (own_lengths parts.now) < 2 ^ 32 }
     requires fits { own_bytes parts.now ≤ 2 ^ 62 }
-    ensures { IfOk result (λ views. ArePut shares.old
+    ensures put { IfOk result (λ views. ArePut shares.old
         (reserved_items first (all_lengths page parts.now)) views shares.new) }
+    ensures brought { IfOk result
+        (λ views. AreBrought shares.new first (all_lengths page parts.now) views) }
 {
     let lengths = own_lengths(alloc, parts)?;
     let spans = piece_spans(alloc, page, lengths.as_slice())?;
