@@ -140,6 +140,7 @@ module _ (name : ℕ) (line : List Part) (old : Parts) (mid : List (Option Share
       put = put_join old.shares mid now.shares (range_items line) (inline_items page first line) ranges pieces put more;
       ranges = ranges_stay (inline_items page first line) pieces now.shares more;
       pieces = brought;
+      held = more.held;
       sending = refl;
       rest = inline_shape now pieces has.0 brought is;
     }
@@ -147,6 +148,7 @@ module _ (name : ℕ) (line : List Part) (old : Parts) (mid : List (Option Share
       put = put_join old.shares mid now.shares (range_items line) (inline_items page first line) ranges pieces put more;
       ranges = ranges_stay (inline_items page first line) pieces now.shares more;
       pieces = brought;
+      held = more.held;
       sending = refl;
       rest = inline_shape now pieces has.0 brought is;
     }
@@ -184,6 +186,7 @@ module _ (name : ℕ) (line : List Part) (old : Parts) (mid : List (Option Share
           put = put_join old.shares mid now.shares (range_items line) (reserved_items first (all_lengths page line)) ranges pieces put more;
           ranges = ranges_stay (reserved_items first (all_lengths page line)) pieces now.shares more;
           pieces = brought;
+          held = more.held;
           sending = ap (λ (n : ℕ). Writing (map slot_of pieces) (replicate n false)) (sym (length-map pieces slot_of));
           rest = is ∙ (λ i. shaped now.shares (old.homes ++ map slot_of pieces) (used i) (sym (append-nil old.quota.waiting) i)
               (old.pages.reserved + reserves i) (old.held + many i));
@@ -204,6 +207,7 @@ module _ (name : ℕ) (line : List Part) (old : Parts) (mid : List (Option Share
               (put_join old.shares mid mid (range_items line) [] ranges [] put (put_none mid));
           ranges = subst (λ (list : List (Option Share)). AreRanges list ranges line) shares (put_ranges_held old.shares mid line ranges put);
           pieces = tt;
+          held = refl;
           sending = refl;
           rest = is ∙ (λ i. shaped (shares i) (old.homes ++ replicate (piece_count page (own_lengths line)) 0) (used i)
               (old.quota.waiting ++ (name, own_bytes line) ∷ []) (reserves i) (many i));

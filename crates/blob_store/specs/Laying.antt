@@ -1,10 +1,11 @@
 -- What is laid down of a blob that comes, before its entry is there. Own.
-use Rattle.std.specs.Prelude.{ℕ, ◌≡◌, ◌+◌, ◌≤◌, ◌<◌, false, List, [], ◌++◌, ◌∷◌, length, map, replicate, sum_by}
+use Rattle.std.specs.Prelude.{ℕ, ◌≡◌, ◌+◌, ◌≤◌, ◌<◌, false, List, [], ◌++◌, ◌∷◌, length, map, replicate, sum_by, Some}
 use Rattle.blob_words.specs.declared.plan.Plan.{Plan}
 use Rattle.blob_words.specs.declared.plan.Plan.TheVariants as plans
 use Rattle.blob_words.specs.declared.status.Status.{Status}
 use Rattle.blob_words.specs.declared.status.Status.TheVariants as statuses
 use Rattle.session_script.specs.declared.event.Part.{Part}
+use Rattle.item_shares.specs.Shares.{share_at, share_of}
 use Rattle.item_shares.specs.declared.item.Item.{Item}
 use Rattle.blob_items.specs.declared.view.View.{View}
 use Rattle.blob_model.specs.Parts.{embedded, own_bytes, own_lengths}
@@ -20,7 +21,6 @@ use Rattle.blob_store.specs.declared.building.laying.Laid.{Laid}
 use Rattle.blob_store.specs.declared.parts.Parts.{Parts}
 use Rattle.blob_store.specs.declared.row.Sending.{Sending}
 use Rattle.blob_store.specs.declared.row.Sending.TheVariants.{Settled, Waiting, Writing}
-use Rattle.std.specs.Prelude.{sum}
 
 -- the slot of a view
 abbrev pub slot_of : View → ℕ
@@ -64,6 +64,8 @@ pub record Lays (name : ℕ) (plan : Plan) (line : List Part) (old : Parts) (lai
   pub put : ArePut old.shares (range_items line ++ own_items old.limits.page (first_piece old) plan line) (laid.ranges ++ laid.pieces) now.shares
   pub ranges : AreRanges now.shares laid.ranges line
   pub pieces : AreBrought now.shares (first_piece old) (lengths_by old.limits.page plan line) laid.pieces
+  pub held : map (λ (view : View). share_at now.shares view.slot) laid.pieces
+      ≡ map (λ (item : Item). Some (share_of item 1)) (own_items old.limits.page (first_piece old) plan line)
   pub sending : laid.sending ≡ sending_by plan (map slot_of laid.pieces)
   pub rest : now ≡ record old {
     shares = now.shares;

@@ -20,3 +20,4 @@ pub mod NewBlobs
 pub mod Laying
 pub mod Entering
 pub mod Claiming
+pub mod Adding

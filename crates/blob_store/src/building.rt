@@ -1,6 +1,7 @@
 //! What a line that builds puts into the store: items under slots, the recipe of its parts, an
 //! entry and a row.
 
+mod adding;
 mod claiming;
 pub mod entering;
 mod homes;

@@ -1,0 +1,32 @@
+//! A blob with a plan comes.
+ghost use Rattle.std.specs.Prelude.{OnOk};
+ghost use Rattle.blob_store.specs.Adding.{CanAdd, IsAdded};
+ghost use Rattle.blob_store.specs.Whole.{IsWhole};
+
+use crate::parts::Parts;
+use blob_words::{BlobName, NoMemory, Plan, RendererId};
+use session_script::Part;
+
+impl Parts {
+    /// A blob comes whose plan is this: its items, its entry and its row.
+    #[tactic(auto, unfolding(crate::specs::Whole::IsWhole))]
+    pub(crate) fn add_planned(
+        &mut self,
+        renderer: RendererId,
+        name: BlobName,
+        kind: &[u8],
+        plan: Plan,
+        parts: &[Part],
+    ) -> Result<(), NoMemory>
+        requires whole { IsWhole self.old }
+        requires can { CanAdd renderer name plan parts.now self.old }
+        ensures { OnOk result (IsAdded renderer name kind.now plan parts.now self.old self.new) }
+    {
+        let first = self.homes.len() as u32;
+        let weight = self.line_weight(parts) as u64;
+        let laid = self.lay(name, plan, parts)?;
+        let arrival = self.arrival(plan, weight, first, parts, laid)?;
+        self.enter(renderer, name, kind, arrival)?;
+        Ok(())
+    }
+}
