@@ -67,6 +67,7 @@ module _ (limits : Limits) (version : Version) (parts : Parts) where
       each_row = refl;
       awaited = λ number. tt;
       waits = refl;
+      known = λ number. tt;
       weighed = λ number. tt;
     };
     holders = record {

@@ -56,6 +56,7 @@ whole_lost parts whole = record {
     each_row = whole.blobs.each_row;
     awaited = whole.blobs.awaited;
     waits = whole.blobs.waits;
+    known = whole.blobs.known;
     weighed = whole.blobs.weighed;
   };
   holders = whole.holders;

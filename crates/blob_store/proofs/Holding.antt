@@ -18,6 +18,7 @@ use Rattle.blob_entries.specs.Names.{number_of}
 use Rattle.blob_entries.specs.Statuses.{is_broken}
 use Rattle.blob_entries.specs.Weights.{cut_weight}
 use Rattle.blob_entries.specs.declared.entry.Entry.{Entry}
+use Rattle.blob_entries.specs.declared.step.Step.{Step}
 use Rattle.page_files.specs.Files.{Files}
 use Rattle.quota_queue.specs.Queue.{Queue}
 use Rattle.blob_store.specs.declared.row.Row.{Row}
@@ -30,7 +31,7 @@ use Rattle.blob_store.specs.declared.readers.OpenReader.{OpenReader}
 use Rattle.blob_store.specs.Readers.{reader_at}
 use Rattle.blob_store.specs.Roots.{handles_of, roots_at, roots_in}
 use Rattle.blob_store.specs.Rows.{pins}
-use Rattle.blob_store.specs.Blobs.{Awaits, Blobs, IsInside, IsThere, Views}
+use Rattle.blob_store.specs.Blobs.{AreKnown, Awaits, Blobs, IsInside, IsKnown, IsThere, Views}
 use Rattle.blob_store.specs.Holders.{IsOpen, Owned}
 use Rattle.blob_store.specs.Stored.{row_weights}
 use Rattle.blob_store.specs.Whole.{with_line, Whole}
@@ -107,6 +108,9 @@ module _ (change : Entry → Entry) (reroots : Reroots change) where
     each_row = blobs.each_row;
     awaited = λ other. awaited_changed page order change awaits_still book.entries number other (slice_get rows other) (blobs.awaited other);
     waits = blobs.waits;
+    known = λ other. held_changed (AreKnown book.names) change
+        (λ entry is. subst (λ (steps : List Step). AllByRecursion (IsKnown book.names) steps) (sym (reroots.recipe entry)) is) book.entries number other
+        (blobs.known other);
     weighed = λ other. held_changed
         (λ (entry : Entry). length (held_views entry) + cut_weight book.names (row_weights rows) entry.recipe ≤ slice_index (row_weights rows) other)
         change (λ entry is. rw (reroots.views entry, reroots.recipe entry) is) book.entries number other (blobs.weighed other);

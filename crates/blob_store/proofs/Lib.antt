@@ -25,6 +25,12 @@ pub mod Slots
 pub mod Weighing
 pub mod Refused
 pub mod Putting
+pub mod OneMore
+pub mod Staying
+pub mod StoredGrows
+pub mod HoldersGrow
+pub mod BlobsGrow
+pub mod Grown
 pub mod Arriving
 pub mod OwnPieces
 pub mod HeardJobs

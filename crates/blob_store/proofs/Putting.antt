@@ -87,7 +87,7 @@ still_seen old new slot held (view ∷ views) changes away = by (still_seen old 
         ∙ ap (λ (list : List (Option Share)). share_at old view.slot ∷ list) (behind away)
 
 -- a slot that none of the views is on
-on_none : (slot : ℕ) (views : List View) → is_seen slot views ≡ false → views_on slot views ≡ 0
+pub on_none : (slot : ℕ) (views : List View) → is_seen slot views ≡ false → views_on slot views ≡ 0
 on_none slot [] away = refl
 on_none slot (view ∷ views) away = by (on_none slot views) (view.slot == slot) refl away
   where

@@ -24,7 +24,7 @@ use Rattle.blob_store.specs.declared.row.Row.{Row}
 use Rattle.blob_store.specs.Readers.{reader_at}
 use Rattle.blob_store.specs.Roots.{roots_at, roots_in}
 use Rattle.blob_store.specs.Rows.{pins, waiting}
-use Rattle.blob_store.specs.Blobs.{Awaits, Blobs, IsAwaited, Views}
+use Rattle.blob_store.specs.Blobs.{AreKnown, Awaits, Blobs, IsAwaited, Views}
 use Rattle.blob_store.specs.Holders.{IsOpen, Owned}
 use Rattle.blob_store.specs.Stored.{row_weights}
 use Rattle.blob_store.specs.Whole.{Whole}
@@ -121,6 +121,9 @@ blobs_same {page} {shares} {rows} {quota} {files} {order} old new same blobs = r
   awaited = λ number. if_awaited page order (entry_at new.entries number) (entry_at old.entries number) (slice_get rows number)
       (same_at new.entries old.entries same.entries number) (blobs.awaited number);
   waits = blobs.waits ∙ ap (λ (names : List ℕ). waiting names rows) (sym same.names);
+  known = λ number. subst (λ (names : List ℕ). IfSome (entry_at new.entries number) (AreKnown names)) (sym same.names)
+      (if_same (AreKnown old.names) (λ entry roots is. is) (entry_at new.entries number) (entry_at old.entries number)
+      (same_at new.entries old.entries same.entries number) (blobs.known number));
   weighed = λ number. subst
       (λ (names : List ℕ). IfSome (entry_at new.entries number)
       (λ (entry : Entry). length (held_views entry) + cut_weight names (row_weights rows) entry.recipe ≤ slice_index (row_weights rows) number))

@@ -21,7 +21,7 @@ use Rattle.quota_queue.specs.Queue.{Queue}
 use Rattle.store_laws.specs.Items.{holds_piece}
 use Rattle.store_laws.specs.PartLaws.{piece_lengths}
 use Rattle.store_laws.specs.Weights.{range_weight}
-use Rattle.blob_store.specs.Rows.{all_waiting, pieces_to_come, AreInTurn}
+use Rattle.blob_store.specs.Rows.{all_waiting, pieces_of_row, pieces_to_come, AreInTurn}
 use Rattle.blob_store.specs.declared.row.Row.{Row}
 use Rattle.blob_store.specs.declared.row.Sending.{Sending}
 use Rattle.blob_store.specs.declared.row.Sending.TheVariants.{Settled, Waiting, Gathering, Writing}
@@ -94,6 +94,8 @@ IsSendingOf limits shares row (Gathering segments) = (segments.parts ≡ row.len
 IsSendingOf limits shares row (Writing slots came) = AreOnTheirWay shares row.first (flat_map (piece_lengths limits.page) row.lengths) slots came
 
 pub record RowStored (limits : Limits) (shares : List (Option Share)) (row : Row) : Type 0 where
+  -- the pieces that are to come are some of its own, so that pieces of later blobs are none of them
+  pub own : pieces_to_come limits.page row.lengths row.sending ≤ pieces_of_row limits.page row
   pub unheld : AreUnheld limits.page shares row
   pub sending : IsSendingOf limits shares row row.sending
 

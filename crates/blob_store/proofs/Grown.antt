@@ -1,0 +1,21 @@
+-- The parts agree when a blob comes.
+use Rattle.std.proofs.Common.{◌≡◌, sym, subst}
+use Rattle.std.specs.Prelude.{length, IsSome}
+use Rattle.blob_words.specs.declared.number.RendererId.{RendererId}
+use Rattle.renderer_table.specs.Table.{living_of}
+use Rattle.blob_store.specs.declared.parts.Parts.{Parts}
+use Rattle.blob_store.specs.NewBlobs.{Fits, Grows, NewBlob}
+use Rattle.blob_store.specs.Whole.{with_line, Whole}
+use Rattle.blob_store.proofs.BlobsGrow.{blobs_grow}
+use Rattle.blob_store.proofs.HoldersGrow.{holders_grow}
+use Rattle.blob_store.proofs.StoredGrows.{stored_grows}
+
+pub whole_grows : (new : NewBlob) (renderer : RendererId) (old now : Parts) → length old.registry.names ≡ length old.registry.entries
+    → IsSome (living_of renderer.0 old.renderers) → Whole old → Fits new old now → Grows new renderer.0 old now → Whole (with_line now)
+whole_grows new renderer old now sized alive whole fits grows =
+    subst (λ (parts : Parts). Whole (with_line parts)) (sym grows.rest)
+    (record {
+      stored = stored_grows new renderer.0 old now grows whole.stored fits.items_fit fits.row_fits;
+      blobs = blobs_grow new renderer.0 old now grows sized whole.blobs fits.row_fits fits.entry_fits;
+      holders = holders_grow new renderer.0 old now grows sized alive fits.entry_fits.fresh fits.entry_fits.rooted whole.holders;
+    })
