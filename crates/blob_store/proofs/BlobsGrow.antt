@@ -3,7 +3,8 @@ use Rattle.std.proofs.Common.{◌≡◌, ℕ, ◌+◌, ◌<◌, ◌≤◌, Bool,
 use Rattle.std.specs.Prelude.{min, slice_get, slice_index, sum, sum_by, IfSome, IsSome, IsSomeAnd}
 use Rattle.std.specs.List.{AllByRecursion}
 use Rattle.std.specs.Option.{option_map_or}
-use Rattle.std.proofs.lemmas.List.{length-append, length-map, map-append}
+use Rattle.std.proofs.Math.Seq.{get_or-append_seam}
+use Rattle.std.proofs.lemmas.List.{get_or_append_left, length-append, length-map, map-append}
 use Rattle.std.proofs.lemmas.List.Sums.{sum_by-append, sum_by-cons}
 use Rattle.std.proofs.lemmas.Option.{slice_get_within}
 use Rattle.std.proofs.lemmas.Bool.{eq-eqb}
@@ -22,7 +23,7 @@ use Rattle.blob_entries.specs.declared.step.Step.{Step}
 use Rattle.blob_entries.specs.declared.step.Step.TheVariants.{Own, Fixed, Source}
 use Rattle.blob_entries.proofs.Numbers.{number_kept, number_of_next, number_within}
 use Rattle.blob_entries.proofs.Soundness.{at_within}
-use Rattle.blob_model.proofs.Lists.{for_each}
+use Rattle.blob_model.proofs.Lists.{append_second, for_each}
 use Rattle.blob_registry.specs.Registering.{pushed}
 use Rattle.store_laws.specs.Items.{item_length}
 use Rattle.store_laws.specs.Weights.{memory_weight, piece_weight, reserved_weight}
@@ -33,16 +34,11 @@ use Rattle.blob_store.specs.NewBlobs.{EntryFits, Grows, NewBlob, RowFits}
 use Rattle.blob_store.specs.Putting.{is_seen}
 use Rattle.blob_store.specs.Rows.{gathered_bytes, gathered_pieces, pins, waiting, waits_by}
 use Rattle.blob_store.specs.Stored.{row_weights}
-use Rattle.blob_store.proofs.OneMore.{each_more, entry_last, entry_still, index_last, index_still, pins_more, stands_more, views_more, waiting_more}
+use Rattle.blob_store.proofs.OneMore.{each_more, if_both, if_so, pins_more, stands_more, views_more, waiting_more}
 use Rattle.blob_store.proofs.Putting.{on_none}
 use Rattle.blob_store.proofs.Staying.{counted_more, item_still, none_counted}
 
 -- ---- views
-
--- what is so of each element on both lists is so of each of the second one
-all_behind : {X : Type 0} (P : X → Type 0) (xs ys : List X) → AllByRecursion P (xs ++ ys) → AllByRecursion P ys
-all_behind P [] ys all = all
-all_behind P (x ∷ xs) ys all = all_behind P xs ys all.1
 
 module _ (old new : List (Option Share)) (still : (P : Item → Type 0) (slot : ℕ) → IsSomeAnd (item_at old slot) P → IsSomeAnd (item_at new slot) P) where
   -- views on items that can be asked for are on them still
@@ -66,7 +62,7 @@ module _ (old new : List (Option Share)) (still : (P : Item → Type 0) (slot : 
   views_still entry is = record {
     inside = for_each (IsInside old) (IsInside new) (held_views entry)
         (λ view within. still (λ (item : Item). view.off + view.len ≤ item_length item) view.slot within) is.inside;
-    there = there_still entry.views (all_behind (IsInside old) (fixed_views entry.recipe ++ own_views entry.own) entry.views is.inside) is.there;
+    there = there_still entry.views (append_second (IsInside old) (fixed_views entry.recipe ++ own_views entry.own) entry.views is.inside) is.there;
   }
 
 -- ---- names
@@ -93,7 +89,7 @@ step_still names more weights others (Source name off len) same is =
     let one = known_number name names is in
     let within = number_within name names one.0 one.1 in
     ap (λ (found : Option ℕ). min len (option_map_or (slice_index (weights ++ others)) found 0)) (number_kept name names more one.0 one.1)
-    ∙ ap (λ (n : ℕ). min len n) (index_still weights others one.0 (omega (arith, within, same)))
+    ∙ ap (λ (n : ℕ). min len n) (get_or_append_left weights others 0 one.0 (omega (arith, within, same)))
     ∙ ap (λ (found : Option ℕ). min len (option_map_or (slice_index weights) found 0)) (sym one.1)
 
 cut_still : (names more weights others : List ℕ) (steps : List Step) → length weights ≡ length names → AllByRecursion (IsKnown names) steps
@@ -107,14 +103,6 @@ cut_still names more weights others (step ∷ steps) same known =
       step_still names more weights others step same known.0,
       cut_still names more weights others steps same known.1,
     )
-
-if_all : {X : Type 0} (P Q : X → Type 0) (held : Option X) → ((x : X) → held ≡ Some x → P x → Q x) → IfSome held P → IfSome held Q
-if_all P Q None on is = tt
-if_all P Q (Some x) on is = on x refl is
-
-if_two : {X : Type 0} (P Q R : X → Type 0) (held : Option X) → ((x : X) → held ≡ Some x → P x → Q x → R x) → IfSome held P → IfSome held Q → IfSome held R
-if_two P Q R None on is also = tt
-if_two P Q R (Some x) on is also = on x refl is also
 
 module _ (new : NewBlob) (renderer : ℕ) (old now : Parts) (grows : Grows new renderer old now)
     (sized : length old.registry.names ≡ length old.registry.entries)
@@ -197,21 +185,21 @@ module _ (new : NewBlob) (renderer : ℕ) (old now : Parts) (grows : Grows new r
 
   named : (number : ℕ) → IfSome (slice_get names number) (λ (name : ℕ). number_of name names ≡ Some number)
   named = each_more (λ (number name : ℕ). number_of name names ≡ Some number) old.registry.names new.name
-      (λ number. if_all (λ (name : ℕ). number_of name old.registry.names ≡ Some number) (λ (name : ℕ). number_of name names ≡ Some number)
+      (λ number. if_so (λ (name : ℕ). number_of name old.registry.names ≡ Some number) (λ (name : ℕ). number_of name names ≡ Some number)
       (slice_get old.registry.names number) (λ name at is. number_kept name old.registry.names (new.name ∷ []) number is) (blobs.names number)) last_number
 
   row_awaited : (number : ℕ) → IfSome (slice_get rows number) (IsAwaited old.limits.page old.recent (entry_at entries number))
   row_awaited = each_more (λ (number : ℕ). IsAwaited old.limits.page old.recent (entry_at entries number)) old.rows new.row
-      (λ number. if_all (IsAwaited old.limits.page old.recent (entry_at old.registry.entries number))
+      (λ number. if_so (IsAwaited old.limits.page old.recent (entry_at old.registry.entries number))
       (IsAwaited old.limits.page old.recent (entry_at entries number)) (slice_get old.rows number)
       (λ row at is. let within = slice_get_within old.rows number row at in
       let many = blobs.each_row in
       subst (λ (held : Option Entry). IsAwaited old.limits.page old.recent held row)
-      (sym (entry_still old.registry.entries (Some new.entry ∷ []) number (omega (arith, within, many, sized)))) is) (blobs.awaited number))
+      (sym (get_or_append_left old.registry.entries (Some new.entry ∷ []) None number (omega (arith, within, many, sized)))) is) (blobs.awaited number))
       (subst (λ (held : Option Entry). IsAwaited old.limits.page old.recent held new.row) (sym at_last) fits.awaited)
     where
       at_last : entry_at entries (length old.rows) ≡ Some new.entry
-      at_last = ap (λ (n : ℕ). entry_at entries n) (blobs.each_row ∙ sized) ∙ entry_last old.registry.entries new.entry
+      at_last = ap (λ (n : ℕ). entry_at entries n) (blobs.each_row ∙ sized) ∙ get_or-append_seam old.registry.entries (Some new.entry) [] None
 
   abbrev AreLight : ℕ → Entry → Type 0
   AreLight number entry = length (held_views entry) + cut_weight names (row_weights rows) entry.recipe ≤ slice_index (row_weights rows) number
@@ -227,9 +215,9 @@ module _ (new : NewBlob) (renderer : ℕ) (old now : Parts) (grows : Grows new r
 
   weighed : AreWeighed (pushed old.registry new.name new.entry) (row_weights rows)
   weighed = stands_more AreLight old.registry.entries new.entry
-      (λ number. if_two (AreKnown old.registry.names)
+      (λ number. if_both (AreKnown old.registry.names)
       (λ (entry : Entry). length (held_views entry) + cut_weight old.registry.names (row_weights old.rows) entry.recipe
-      ≤ slice_index (row_weights old.rows) number) (AreLight number) (entry_at old.registry.entries number) (λ entry at known is. light number entry at known is)
+      ≤ slice_index (row_weights old.rows) number) (AreLight number) (entry_at old.registry.entries number) (light number)
       (blobs.known number) (blobs.weighed number)) last
     where
       light : (number : ℕ) (entry : Entry) → entry_at old.registry.entries number ≡ Some entry → AreKnown old.registry.names entry
@@ -240,7 +228,7 @@ module _ (new : NewBlob) (renderer : ℕ) (old now : Parts) (grows : Grows new r
           let cut = cut_same entry known in
           let index : slice_index (row_weights rows) number ≡ slice_index (row_weights old.rows) number =
           ap (λ (list : List ℕ). slice_index list number) weights_more
-          ∙ index_still (row_weights old.rows) (new.row.weight ∷ []) number (omega (arith, within, many_weights, sized)) in
+          ∙ get_or_append_left (row_weights old.rows) (new.row.weight ∷ []) 0 number (omega (arith, within, many_weights, sized)) in
           omega (arith, is, cut, index)
 
       last : AreLight (length old.registry.entries) new.entry
@@ -249,7 +237,7 @@ module _ (new : NewBlob) (renderer : ℕ) (old now : Parts) (grows : Grows new r
           let index : slice_index (row_weights rows) (length old.registry.entries) ≡ new.row.weight =
           ap (λ (list : List ℕ). slice_index list (length old.registry.entries)) weights_more
           ∙ ap (λ (n : ℕ). slice_index (row_weights old.rows ++ new.row.weight ∷ []) n) (sym (many_weights ∙ sized))
-          ∙ index_last (row_weights old.rows) new.row.weight in
+          ∙ get_or-append_seam (row_weights old.rows) new.row.weight [] 0 in
           let is = fits.weighed in omega (arith, is, cut, index)
 
   pub blobs_grow : Blobs old.limits.page (pushed old.registry new.name new.entry) now.shares rows
@@ -260,16 +248,17 @@ module _ (new : NewBlob) (renderer : ℕ) (old now : Parts) (grows : Grows new r
   blobs_grow = record {
     charged = charged;
     views = stands_more (λ (number : ℕ). Views now.shares) old.registry.entries new.entry
-        (λ number. if_all (Views old.shares) (Views now.shares) (entry_at old.registry.entries number)
+        (λ number. if_so (Views old.shares) (Views now.shares) (entry_at old.registry.entries number)
         (λ entry at is. views_still old.shares now.shares still entry is) (blobs.views number)) fits.views;
     names = named;
-    each_row = length-append old.rows (new.row ∷ []) ∙ ap (λ (n : ℕ). n + 1) blobs.each_row ∙ sym (length-append old.registry.names (new.name ∷ []));
+    each_row =
+        length-append old.rows (new.row ∷ []) ∙ ap (λ (n : ℕ). n + 1) blobs.each_row ∙ sym (length-append old.registry.names (new.name ∷ []));
     awaited = row_awaited;
     waits =
         ap (λ (list : List (ℕ × ℕ)). list ++ waits_by new.name (sum new.row.lengths) new.row.sending) blobs.waits
         ∙ sym (waiting_more old.registry.names old.rows new.name new.row blobs.each_row);
     known = stands_more (λ (number : ℕ). AreKnown names) old.registry.entries new.entry
-        (λ number. if_all (AreKnown old.registry.names) (AreKnown names) (entry_at old.registry.entries number)
+        (λ number. if_so (AreKnown old.registry.names) (AreKnown names) (entry_at old.registry.entries number)
         (λ entry at is. more_known entry.recipe is) (blobs.known number)) (more_known new.entry.recipe fits.known);
     weighed = weighed;
   }

@@ -5,7 +5,9 @@ use Rattle.std.specs.List.{list_any}
 use Rattle.std.specs.Option.{option_map_or}
 use Rattle.std.specs.Ordering.{nat_cmp}
 use Rattle.std.specs.BTreeMap.{is_at}
+use Rattle.std.proofs.Math.Seq.{get_or-append_seam}
 use Rattle.std.proofs.lemmas.Bool.{eq-eqb, eqb-true}
+use Rattle.std.proofs.lemmas.List.{get_or_append_left}
 use Rattle.blob_entries.specs.Book.{Book, entry_at, entry_of}
 use Rattle.blob_entries.specs.Names.{number_of}
 use Rattle.blob_entries.specs.Statuses.{is_broken}
@@ -21,7 +23,6 @@ use Rattle.blob_store.specs.Holders.{Holders, IsOpen}
 use Rattle.blob_store.specs.NewBlobs.{Grows, NewBlob}
 use Rattle.blob_store.specs.Readers.{reader_at}
 use Rattle.blob_store.specs.Roots.{handles_of, roots_at}
-use Rattle.blob_store.proofs.OneMore.{entry_last, entry_still}
 use Rattle.blob_store.proofs.Owning.{owned_same}
 use Rattle.blob_store.proofs.Rooting.{handles_moved}
 
@@ -45,14 +46,15 @@ module _ (book : Book) (name : ℕ) (entry : Entry) (fresh : number_of name book
           → under (number_of other (book.names ++ name ∷ [])) ≡ cond b (Some entry) (option_and_then (entry_at book.entries) found)
       by None at true same =
           ap under (number_of_next other name book.names at ∙ ap (λ (b : Bool). cond {A = Option ℕ} b (Some (length book.names)) None) (turned true same))
-          ∙ ap (λ (n : ℕ). entry_at (book.entries ++ Some entry ∷ []) n) sized ∙ entry_last book.entries entry
+          ∙ ap (λ (n : ℕ). entry_at (book.entries ++ Some entry ∷ []) n) sized ∙ get_or-append_seam book.entries (Some entry) [] None
       by None at false same =
           ap under (number_of_next other name book.names at ∙ ap (λ (b : Bool). cond {A = Option ℕ} b (Some (length book.names)) None) (turned false same))
       by (Some number) at true same =
           absurd (cc (sym at ∙ ap (λ (n : ℕ). number_of n book.names) (sym (eqb-true name other same)) ∙ fresh))
       by (Some number) at false same =
           ap under (number_kept other book.names (name ∷ []) number at)
-          ∙ entry_still book.entries (Some entry ∷ []) number (let within = number_within other book.names number at in omega (arith, within, sized))
+          ∙ get_or_append_left book.entries (Some entry ∷ []) None number
+          (let within = number_within other book.names number at in omega (arith, within, sized))
 
   none_before : (other : ℕ) → (name == other) ≡ true → entry_of book other ≡ None
   none_before other same =
@@ -99,7 +101,8 @@ module _ (new : NewBlob) (renderer : ℕ) (old now : Parts) (grows : Grows new r
       ∙ ap (λ (b : Bool). cond (b && (new.name == name)) (count_of renderer name old.renderers + 1) (count_of renderer name old.renderers))
       (eq-eqb renderer renderer refl))
     where
-      by : (b : Bool) → handles_of name now.renderers + count_of renderer name old.renderers ≡ handles_of name old.renderers + count_of renderer name now.renderers
+      by : (b : Bool)
+          → handles_of name now.renderers + count_of renderer name old.renderers ≡ handles_of name old.renderers + count_of renderer name now.renderers
           → count_of renderer name now.renderers ≡ cond b (count_of renderer name old.renderers + 1) (count_of renderer name old.renderers)
           → handles_of name now.renderers ≡ handles_of name old.renderers + cond {A = ℕ} b 1 0
       by true moved counted = omega (arith, moved, counted)

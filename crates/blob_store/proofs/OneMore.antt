@@ -1,6 +1,6 @@
 -- Lists with one more behind them.
-use Rattle.std.proofs.Common.{◌≡◌, ℕ, zero, suc, ◌+◌, ◌<◌, ◌≤◌, ◌==◌, cond, List, [], ◌∷◌, ◌++◌, Option, Some, length, refl, sym, ap, ◌∙◌, arith}
-use Rattle.std.specs.Prelude.{count_by, flat_map, slice_get, slice_index, sum, IfSome, IsSomeAnd}
+use Rattle.std.proofs.Common.{◌≡◌, ℕ, zero, suc, ◌+◌, ◌≤◌, ◌==◌, cond, List, [], ◌∷◌, ◌++◌, Option, Some, None, length, refl, sym, ap, ◌∙◌, arith}
+use Rattle.std.specs.Prelude.{count_by, flat_map, slice_get, sum, IfSome, IsSomeAnd}
 use Rattle.std.proofs.lemmas.Grind.{flat_map-append}
 use Rattle.std.proofs.lemmas.List.{append-nil, append_assoc}
 use Rattle.std.proofs.lemmas.List.Sums.{sum_by-append}
@@ -18,10 +18,14 @@ got_still P [] more number is = absurd is
 got_still P (x ∷ xs) more zero is = is
 got_still P (x ∷ xs) more (suc number) is = got_still P xs more number is
 
-pub same_still : {X : Type 0} (xs more : List X) (number : ℕ) (x : X) → slice_get xs number ≡ Some x → slice_get (xs ++ more) number ≡ Some x
-same_still [] more number x is = absurd (cc is)
-same_still (one ∷ xs) more zero x is = is
-same_still (one ∷ xs) more (suc number) x is = same_still xs more number x is
+-- what is so of what may be there, where one thing or two were
+pub if_so : {X : Type 0} (P Q : X → Type 0) (held : Option X) → ((x : X) → held ≡ Some x → P x → Q x) → IfSome held P → IfSome held Q
+if_so P Q None on is = tt
+if_so P Q (Some x) on is = on x refl is
+
+pub if_both : {X : Type 0} (P Q R : X → Type 0) (held : Option X) → ((x : X) → held ≡ Some x → P x → Q x → R x) → IfSome held P → IfSome held Q → IfSome held R
+if_both P Q R None on is also = tt
+if_both P Q R (Some x) on is also = on x refl is also
 
 -- what is said of each and of the new one is said of all
 pub each_more : {X : Type 0} (P : ℕ → X → Type 0) (xs : List X) (x : X) → ((number : ℕ) → IfSome (slice_get xs number) (P number)) → P (length xs) x
@@ -39,25 +43,6 @@ stands_more P [] entry each last (suc number) = tt
 stands_more P (held ∷ entries) entry each last zero = each 0
 stands_more P (held ∷ entries) entry each last (suc number) =
     stands_more (λ (n : ℕ). P (suc n)) entries entry (λ n. each (suc n)) last number
-
--- the number that is read, of those that were there and of the new one
-pub index_still : (numbers more : List ℕ) (number : ℕ) → number < length numbers → slice_index (numbers ++ more) number ≡ slice_index numbers number
-index_still [] more number within = absurd (omega (arith, within))
-index_still (one ∷ numbers) more zero within = refl
-index_still (one ∷ numbers) more (suc number) within = index_still numbers more number (omega (arith, within))
-
-pub index_last : (numbers : List ℕ) (last : ℕ) → slice_index (numbers ++ last ∷ []) (length numbers) ≡ last
-index_last [] last = refl
-index_last (one ∷ numbers) last = index_last numbers last
-
-pub entry_still : (entries more : List (Option Entry)) (number : ℕ) → number < length entries → entry_at (entries ++ more) number ≡ entry_at entries number
-entry_still [] more number within = absurd (omega (arith, within))
-entry_still (one ∷ entries) more zero within = refl
-entry_still (one ∷ entries) more (suc number) within = entry_still entries more number (omega (arith, within))
-
-pub entry_last : (entries : List (Option Entry)) (entry : Entry) → entry_at (entries ++ Some entry ∷ []) (length entries) ≡ Some entry
-entry_last [] entry = refl
-entry_last (held ∷ entries) entry = entry_last entries entry
 
 -- the views of one entry more
 pub views_more : (entries : List (Option Entry)) (entry : Entry) (slot : ℕ)

@@ -1,6 +1,6 @@
 -- Items, page files and rows agree when a blob comes.
 use Rattle.std.proofs.Common.{◌≡◌, ℕ, ◌+◌, ◌≤◌, Bool, List, [], ◌∷◌, ◌++◌, Option, Some, None, length, sym, subst, ◌∙◌, arith}
-use Rattle.std.specs.Prelude.{flat_map, slice_get, sum, sum_by, IfSome, IsSomeAnd}
+use Rattle.std.specs.Prelude.{flat_map, slice_get, sum, sum_by, IsSomeAnd}
 use Rattle.std.proofs.lemmas.List.{length-append}
 use Rattle.std.proofs.lemmas.List.Sums.{sum-map, sum_by-append, sum_by-cons}
 use Rattle.blob_words.specs.declared.number.PageNo.{PageNo}
@@ -8,7 +8,7 @@ use Rattle.item_shares.specs.Shares.{item_at}
 use Rattle.item_shares.specs.declared.item.Item.{Item}
 use Rattle.item_shares.specs.declared.item.Item.TheVariants.{Memory, Paged, Reserved, File, Range}
 use Rattle.item_shares.specs.declared.shares.Share.{Share}
-use Rattle.blob_model.proofs.Lists.{for_each}
+use Rattle.blob_model.proofs.Lists.{for_each, get_append}
 use Rattle.page_files.specs.Files.{left_of, page_no, source_of}
 use Rattle.page_files.specs.Items.{IsMemoryOf, IsPagedIn, IsPagedOf}
 use Rattle.page_files.specs.Pages.{pieces_at}
@@ -22,20 +22,16 @@ use Rattle.blob_store.specs.declared.row.Sending.TheVariants.{Settled, Waiting, 
 use Rattle.blob_store.specs.NewBlobs.{Grows, ItemsFit, NewBlob, RowFits}
 use Rattle.blob_store.specs.Rows.{pieces_of_row, pieces_waiting, waits_by, AreInTurn}
 use Rattle.blob_store.specs.Stored.{row_weights, AreOnTheirWay, IsHeld, IsHome, IsInMemory, IsMemory, IsOfJob, IsOnItsWay, IsSendingOf, RowStored, Stored}
-use Rattle.blob_store.proofs.OneMore.{each_more, got_still, same_still, turn_more, turn_within}
+use Rattle.blob_store.proofs.OneMore.{each_more, got_still, if_both, turn_more, turn_within}
 use Rattle.blob_store.proofs.Staying.{item_still, items_still, unheld_still}
 
 -- the homes that were there are there
 home_still : (homes more : List ℕ) (slot : ℕ) (item : Item) → IsHome homes slot item → IsHome (homes ++ more) slot item
-home_still homes more slot (Memory piece bytes) is = same_still homes more piece.0 slot is
-home_still homes more slot (Paged piece page off len) is = same_still homes more piece.0 slot is
-home_still homes more slot (Reserved piece len) is = same_still homes more piece.0 slot is
+home_still homes more slot (Memory piece bytes) is = get_append homes more piece.0 slot is
+home_still homes more slot (Paged piece page off len) is = get_append homes more piece.0 slot is
+home_still homes more slot (Reserved piece len) is = get_append homes more piece.0 slot is
 home_still homes more slot (File name stamp off len) is = tt
 home_still homes more slot (Range handle off len) is = tt
-
-if_both : {X : Type 0} (P Q R : X → Type 0) (held : Option X) → ((x : X) → P x → Q x → R x) → IfSome held P → IfSome held Q → IfSome held R
-if_both P Q R None both one other = tt
-if_both P Q R (Some x) both one other = both x one other
 
 some_on : {X : Type 0} (P Q : X → Type 0) (held : Option X) → ((x : X) → P x → Q x) → IsSomeAnd held P → IsSomeAnd held Q
 some_on P Q None on is = absurd is
@@ -112,7 +108,7 @@ module _ (new : NewBlob) (renderer : ℕ) (old now : Parts) (grows : Grows new r
     order = for_each (IsInMemory old.shares old.homes) (IsInMemory now.shares homes) old.recent used_still stored.order;
     rows_stored = each_more (λ (number : ℕ). RowStored old.limits now.shares) old.rows new.row
         (λ number. if_both (λ (row : Row). row.first + pieces_of_row old.limits.page row ≤ length old.homes) (RowStored old.limits old.shares)
-        (RowStored old.limits now.shares) (slice_get old.rows number) row_still
+        (RowStored old.limits now.shares) (slice_get old.rows number) (λ row at within is. row_still row within is)
         (turn_within old.limits.page 0 old.rows (length old.homes) stored.in_turn number) (stored.rows_stored number)) fit.stored;
     in_turn = subst (AreInTurn old.limits.page 0 (old.rows ++ new.row ∷ [])) (sym (length-append old.homes new.homes))
         (turn_more old.limits.page 0 old.rows new.row (length old.homes) (length new.homes) stored.in_turn fit.first fit.many);
