@@ -22,6 +22,7 @@ impl Parts {
         requires can { CanAdd renderer name plan parts.now self.old }
         ensures { OnOk result (IsAdded renderer name kind.now plan parts.now self.old self.new) }
     {
+        let _count = self.registry.registered(); // says that there are as many names as entries
         let first = self.homes.len() as u32;
         let weight = self.line_weight(parts) as u64;
         let laid = self.lay(name, plan, parts)?;
