@@ -39,3 +39,4 @@ pub mod Entering
 pub mod Laying
 pub mod Arrivals
 pub mod Added
+pub mod Breaking

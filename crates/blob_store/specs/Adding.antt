@@ -1,14 +1,16 @@
 -- When a blob with a plan can come, and how it comes. Own.
-use Rattle.std.specs.Prelude.{ℕ, ◌≡◌, ◌+◌, ◌-◌, ◌<◌, ◌≤◌, ◌^◌, List, ◌++◌, length, map, sum_by, None, Some, IsSome, IsSomeAnd}
+use Rattle.std.specs.Prelude.{ℕ, ◌≡◌, ◌+◌, ◌-◌, ◌<◌, ◌≤◌, ◌^◌, true, List, [], ◌++◌, length, map, sum_by, None, Some, IsSome, IsSomeAnd}
 use Rattle.std.specs.List.{AllByRecursion}
 use Rattle.blob_words.specs.declared.bounds.TheConstants.{MOST_PIECES, MOST_WEIGHT}
 use Rattle.blob_words.specs.declared.number.RendererId.{RendererId}
 use Rattle.blob_words.specs.declared.plan.Plan.{Plan}
+use Rattle.blob_words.specs.declared.status.Status.{Status}
 use Rattle.session_script.specs.declared.event.Part.{Part}
 use Rattle.session_script.specs.declared.event.Part.TheVariants.{BlobRange, HandleRange}
 use Rattle.item_shares.specs.Weights.{weights}
 use Rattle.blob_entries.specs.Book.{Book, entry_of}
 use Rattle.blob_entries.specs.Names.{number_of}
+use Rattle.blob_entries.specs.Statuses.{is_broken}
 use Rattle.blob_entries.specs.declared.entry.Entry.{Entry}
 use Rattle.blob_model.specs.Parts.{own_lengths, parts_length}
 use Rattle.renderer_table.specs.Table.{living_of}
@@ -16,7 +18,7 @@ use Rattle.transport_plan.specs.Plan.{FitsPlan}
 use Rattle.transport_plan.specs.Spans.{piece_count}
 use Rattle.store_laws.specs.Deciding.{input_in, line_weight_in}
 use Rattle.store_laws.specs.Weights.{range_weight}
-use Rattle.blob_store.specs.Entering.{arrival_by, arrived, Enters}
+use Rattle.blob_store.specs.Entering.{arrival_by, arrived, broken_arrival, Enters}
 use Rattle.blob_store.specs.Laying.{first_piece, homes_by, own_items, slot_of, HasRoom, Lays}
 use Rattle.blob_store.specs.NewBlobs.{NewBlob}
 use Rattle.blob_store.specs.NewItems.{range_items}
@@ -63,3 +65,25 @@ pub record IsAdded (renderer : RendererId) (name : ℕ) (kind : List ℕ) (plan 
   pub between : Parts
   pub lays : Lays name plan line old laid between
   pub enters : Enters renderer name (arrived renderer kind (arrival_of plan line old laid)) (arrival_of plan line old laid).row between now
+
+-- ---- a blob that breaks at its line
+
+pub record CanBreak (renderer : RendererId) (name : ℕ) (why : Status) (parts : Parts) : Type 0 where
+  pub alive : IsSome (living_of renderer.0 parts.renderers)
+  pub fresh : number_of name parts.registry.names ≡ None
+  pub broken : is_broken why ≡ true
+
+-- it is entered, and nothing is laid down
+abbrev pub Breaks : RendererId → ℕ → List ℕ → Status → List Part → Parts → Parts → Type 0
+Breaks renderer name kind why line old now =
+    Enters renderer name (arrived renderer kind (broken_arrival why (first_piece old) line)) (broken_arrival why (first_piece old) line).row old now
+
+abbrev pub broken_blob : RendererId → ℕ → List ℕ → Status → List Part → Parts → NewBlob
+broken_blob renderer name kind why line parts = record {
+  name = name;
+  entry = arrived renderer kind (broken_arrival why (first_piece parts) line);
+  row = (broken_arrival why (first_piece parts) line).row;
+  items = [];
+  views = [];
+  homes = [];
+}
