@@ -37,3 +37,5 @@ pub mod HeardJobs
 pub mod Claiming
 pub mod Entering
 pub mod Laying
+pub mod AddedItems
+pub mod AddedRow
