@@ -29,19 +29,18 @@ use Rattle.blob_store.specs.declared.parts.Parts.{Parts}
 use Rattle.blob_store.proofs.Arrivals.{new_waits_not, own_made, recipe_fits, recipe_long}
 use Rattle.blob_store.proofs.Rooting.{within_handles}
 
+-- nobody has a handle on a blob whose name is new
+pub few_handles : (renderer name : ℕ) (parts : Parts) → Whole parts → number_of name parts.registry.names ≡ None
+    → count_of renderer name parts.renderers < 2 ^ 63
+few_handles renderer name parts whole fresh =
+    let none : entry_of parts.registry name ≡ None = ap (option_and_then (entry_at parts.registry.entries)) fresh in
+    let unheld : roots_at parts.registry name ≡ 0 = ap (λ (held : Option Entry). option_map_or (λ (entry : Entry). entry.roots) held 0) none in
+    omega (arith, unheld, whole.holders.roots name, within_handles renderer name parts.renderers)
+
 module _ (renderer : RendererId) (name : ℕ) (plan : Plan) (line : List Part) (old : Parts) (whole : Whole old) (can : CanAdd renderer name plan line old) where
   pub not_waiting : is_waiting name old.quota.waiting ≡ false
   not_waiting =
       ap (λ (list : List (ℕ × ℕ)). is_waiting name list) whole.blobs.waits ∙ new_waits_not name old.registry.names old.rows can.fresh
-
-  -- nothing stands under the name
-  none_stands : entry_of old.registry name ≡ None
-  none_stands = ap (option_and_then (entry_at old.registry.entries)) can.fresh
-
-  pub few_handles : count_of renderer.0 name old.renderers < 2 ^ 63
-  few_handles =
-      let none : roots_at old.registry name ≡ 0 = ap (λ (held : Option Entry). option_map_or (λ (entry : Entry). entry.roots) held 0) none_stands in
-      omega (arith, none, whole.holders.roots name, within_handles renderer.0 name old.renderers)
 
   module _ (laid : Laid) (between : Parts) (lays : Lays name plan line old laid between) where
     pending : (plan : Plan) → is_pending (status_by plan) ≡ true
@@ -84,4 +83,5 @@ module _ (renderer : RendererId) (name : ℕ) (plan : Plan) (line : List Part) (
         is ∙ (λ i. arrival_by (same i) plan (weight_is i) (first_is i) line laid)
 
     pub few_still : count_of renderer.0 name between.renderers < 2 ^ 63
-    few_still = subst (λ (parts : Parts). count_of renderer.0 name parts.renderers < 2 ^ 63) (sym lays.rest) few_handles
+    few_still = subst (λ (parts : Parts). count_of renderer.0 name parts.renderers < 2 ^ 63) (sym lays.rest)
+        (few_handles renderer.0 name old whole can.fresh)

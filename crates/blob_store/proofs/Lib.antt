@@ -40,3 +40,5 @@ pub mod Laying
 pub mod Arrivals
 pub mod Added
 pub mod Breaking
+pub mod AddedItems
+pub mod AddedRow
