@@ -1,11 +1,11 @@
 -- A blob that breaks at its line fits the parts.
-use Rattle.std.proofs.Common.{◌≡◌, ℕ, ◌+◌, ◌<◌, ◌≤◌, true, false, List, [], ◌∷◌, ◌++◌, length, sum, sum_by, refl, sym, ap, ◌∙◌, None, Option, arith}
+use Rattle.std.proofs.Common.{◌≡◌, ℕ, ◌+◌, ◌<◌, ◌≤◌, true, false, List, [], ◌∷◌, ◌++◌, length, sum, sum_by, refl, sym, ap, subst, ◌∙◌, Option, arith}
 use Rattle.std.proofs.lemmas.List.{append-nil}
 use Rattle.blob_words.specs.declared.number.RendererId.{RendererId}
 use Rattle.blob_words.specs.declared.status.Status.{Status}
 use Rattle.blob_words.specs.declared.status.Status.TheVariants as statuses
 use Rattle.session_script.specs.declared.event.Part.{Part}
-use Rattle.item_shares.specs.Weights.{weights}
+use Rattle.item_shares.specs.declared.shares.Share.{Share}
 use Rattle.blob_entries.specs.Statuses.{is_broken, is_pending}
 use Rattle.store_laws.specs.Weights.{memory_weight, piece_weight, range_weight, reserved_weight}
 use Rattle.blob_registry.specs.Registering.{pushed}
@@ -13,6 +13,7 @@ use Rattle.blob_store.specs.Adding.{broken_blob, Breaks, CanBreak}
 use Rattle.blob_store.specs.Entering.{arrived, broken_arrival}
 use Rattle.blob_store.specs.Laying.{first_piece}
 use Rattle.blob_store.specs.NewBlobs.{Fits, Grows}
+use Rattle.blob_store.specs.Putting.{ArePut}
 use Rattle.blob_store.specs.Whole.{Whole, with_line}
 use Rattle.blob_store.specs.declared.parts.Parts.{Parts}
 use Rattle.blob_store.proofs.Grown.{whole_grows}
@@ -36,7 +37,7 @@ module _ (renderer : RendererId) (name : ℕ) (kind : List ℕ) (why : Status) (
       let reserved : old.pages.reserved ≡ old.pages.reserved + sum_by reserved_weight [] = omega arith in
       let held : old.held ≡ old.held + sum_by piece_weight [] = omega arith in
       record {
-        put = λ i. put_none (same_shares i);
+        put = subst (λ (shares : List (Option Share)). ArePut old.shares [] [] shares) same_shares (put_none old.shares);
         handles = breaks.handles;
         counts = breaks.counts;
         rest = breaks.rest ∙ (λ i. record old {
