@@ -42,3 +42,4 @@ pub mod Added
 pub mod Breaking
 pub mod AddedItems
 pub mod AddedRow
+pub mod CanAdd

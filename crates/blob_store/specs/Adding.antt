@@ -27,11 +27,15 @@ use Rattle.blob_store.specs.declared.building.entering.Arrival.{Arrival}
 use Rattle.blob_store.specs.declared.building.laying.Laid.{Laid}
 use Rattle.blob_store.specs.declared.parts.Parts.{Parts}
 
--- the blob of a part stands and has the range; the range of a data handle ends inside a 64-bit number
+-- the range of a data handle ends inside a 64-bit number
+abbrev pub EndsWithin : Part → Type 0
+EndsWithin (HandleRange k off len) = off + len ≤ 2 ^ 64 - 1
+EndsWithin part = Unit {0}
+
+-- so it does, and the blob of a part stands and has the range
 abbrev pub IsThere : Book → Part → Type 0
 IsThere book (BlobRange b off len) = IsSomeAnd (entry_of book b) (λ (entry : Entry). off + len ≤ entry.size)
-IsThere book (HandleRange k off len) = off + len ≤ 2 ^ 64 - 1
-IsThere book part = Unit {0}
+IsThere book part = EndsWithin part
 
 -- its builder lives, its name is new, its parts are there, its own bytes have room, no two items are of one data handle, and it is within the limits
 pub record CanAdd (renderer : RendererId) (name : ℕ) (plan : Plan) (line : List Part) (parts : Parts) : Type 0 where

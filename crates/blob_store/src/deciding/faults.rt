@@ -1,8 +1,9 @@
 //! Parts with which a blob breaks at its own line.
-ghost use Rattle.std.specs.Prelude.{◌≡◌, ◌+◌, nat_lt};
-ghost use Rattle.std.specs.List.{list_any};
+ghost use Rattle.std.specs.Prelude.{◌≡◌, ◌+◌, false, nat_lt};
+ghost use Rattle.std.specs.List.{list_any, AllByRecursion};
 ghost use Rattle.data_handles.specs.Boxes.{of_table};
 ghost use Rattle.store_laws.specs.Deciding.{free_size, holds, is_broken_under, is_invalid_in, is_lost_in, is_passed, is_unrecorded_in};
+ghost use Rattle.blob_store.specs.Adding.{EndsWithin};
 ghost use Rattle.blob_store.specs.Seen.{parts_of};
 
 use crate::parts::Parts;
@@ -58,8 +59,9 @@ impl Parts {
         name: BlobName,
         part: &Part,
     ) -> bool
-        ensures { result ≡ is_invalid_in (parts_of self.now)
+        ensures value { result ≡ is_invalid_in (parts_of self.now)
             (of_table ⟦<Boxed as DataHandle>⟧.seen handles.now) renderer.0 name part.now }
+        ensures ends { result ≡ false → EndsWithin part.now }
     {
         match part {
             Part::BlobRange { b, off, len } => {
@@ -105,8 +107,9 @@ impl Parts {
         name: BlobName,
         parts: &[Part],
     ) -> bool
-        ensures { result ≡ list_any (is_invalid_in (parts_of self.now)
+        ensures value { result ≡ list_any (is_invalid_in (parts_of self.now)
             (of_table ⟦<Boxed as DataHandle>⟧.seen handles.now) renderer.0 name) parts.now }
+        ensures ends { result ≡ false → AllByRecursion EndsWithin parts.now }
     {
         for part in parts {
             if self.is_invalid(handles, renderer, name, part) {

@@ -1,6 +1,7 @@
 //! The plan of a blob's own bytes.
 ghost use Rattle.std.specs.Prelude.{◌≡◌, ◌≤◌, ◌^◌, IfOk};
 ghost use Rattle.blob_model.specs.Parts.{parts_length};
+ghost use Rattle.transport_plan.specs.Plan.{FitsPlan};
 ghost use Rattle.store_laws.specs.Deciding.{input_in, plan_in};
 ghost use Rattle.blob_store.specs.Seen.{parts_of};
 
@@ -34,7 +35,8 @@ impl Parts {
     /// The plan of the own bytes.
     pub(crate) fn plan_for(&self, parts: &[Part]) -> Result<Plan, NoMemory>
         requires { parts_length parts.now ≤ 2 ^ 62 }
-        ensures { IfOk result (λ plan. plan ≡ plan_in (parts_of self.now) parts.now) }
+        ensures value { IfOk result (λ plan. plan ≡ plan_in (parts_of self.now) parts.now) }
+        ensures fits { IfOk result (λ plan. FitsPlan (input_in (parts_of self.now) parts.now) plan) }
     {
         let input = self.plan_input(parts)?;
         Ok(plan(&input))

@@ -1,8 +1,10 @@
 //! The status of a blob that breaks at its own line.
-ghost use Rattle.std.specs.Prelude.{◌≡◌, IfOk};
+ghost use Rattle.std.specs.Prelude.{◌≡◌, None, IfOk};
+ghost use Rattle.std.specs.List.{AllByRecursion};
 ghost use Rattle.blob_model.specs.Construct.{is_out_of_memory};
 ghost use Rattle.data_handles.specs.Boxes.{of_table};
 ghost use Rattle.store_laws.specs.Deciding.{line_status_in};
+ghost use Rattle.blob_store.specs.Adding.{EndsWithin};
 ghost use Rattle.blob_store.specs.Seen.{parts_of};
 
 use crate::parts::Parts;
@@ -30,8 +32,10 @@ impl Parts {
         name: BlobName,
         parts: &[Part],
     ) -> Result<Option<Status>, NoMemory>
-        ensures { IfOk result (λ status. status ≡ line_status_in (parts_of self.now)
+        ensures value { IfOk result (λ status. status ≡ line_status_in (parts_of self.now)
             (of_table ⟦<Boxed as DataHandle>⟧.seen handles.now) renderer.0 name parts.now) }
+        ensures ends { IfOk result (λ status. status ≡ None
+            → AllByRecursion EndsWithin parts.now) }
     {
         if self.has_invalid(handles, renderer, name, parts) {
             return Ok(Some(Status::InvalidArguments));

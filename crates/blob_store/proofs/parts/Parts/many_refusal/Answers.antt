@@ -10,4 +10,4 @@ use Rattle.blob_store.proofs.parts.Parts.many_refusal.Goals as goal
 pub returns-in-None : goal.returns-in-None
 returns-in-None g c =
     subst (λ (b : Bool). IfOk c.much_refusal.result (λ why. why ≡ first_that (many_in (parts_of c.args.self.now) b c.args.parts.now)))
-    (sym (ap (λ (status : Option Status). is_none status) (sym c.in_ok-status.ensures ∙ c.in-None.is))) c.much_refusal.ensures
+    (sym (ap (λ (status : Option Status). is_none status) (sym c.in_ok-status.ensures.value ∙ c.in-None.is))) c.much_refusal.ensures
