@@ -39,3 +39,4 @@ pub mod Entering
 pub mod Laying
 pub mod AddedItems
 pub mod AddedRow
+pub mod AddedRecipe
