@@ -40,3 +40,5 @@ pub mod Laying
 pub mod AddedItems
 pub mod AddedRow
 pub mod AddedRecipe
+pub mod AddedEntry
+pub mod Added
