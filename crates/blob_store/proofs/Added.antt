@@ -1,5 +1,5 @@
 -- A blob that is added fits the parts, which grow by it.
-use Rattle.std.proofs.Common.{◌≡◌, ℕ, ◌+◌, List, ◌∷◌, ◌++◌, [], map, sym, ap, subst, ◌∙◌, Option, arith}
+use Rattle.std.proofs.Common.{◌≡◌, ℕ, ◌+◌, List, ◌∷◌, ◌++◌, [], length, map, sym, ap, subst, ◌∙◌, Option, arith}
 use Rattle.std.specs.Prelude.{sum_by}
 use Rattle.std.specs.List.{AllByRecursion}
 use Rattle.std.proofs.lemmas.List.Sums.{sum_by-append}
@@ -19,13 +19,13 @@ use Rattle.blob_store.specs.Entering.{arrived}
 use Rattle.blob_store.specs.Laying.{first_piece, homes_by, own_items, slot_of}
 use Rattle.blob_store.specs.NewBlobs.{Fits, Grows}
 use Rattle.blob_store.specs.NewItems.{range_items}
-use Rattle.blob_store.specs.Putting.{ArePut}
 use Rattle.blob_store.specs.Rows.{waits_by}
-use Rattle.blob_store.specs.Whole.{Whole}
+use Rattle.blob_store.specs.Whole.{with_line, Whole}
 use Rattle.blob_store.specs.declared.parts.Parts.{Parts}
 use Rattle.blob_store.proofs.AddedEntry.{added_entry}
 use Rattle.blob_store.proofs.AddedItems.{added_items, lays_came, ranges_are, ranges_no_memory, ranges_no_pieces, ranges_not_reserved, Came, IsRange}
 use Rattle.blob_store.proofs.AddedRow.{added_row}
+use Rattle.blob_store.proofs.Grown.{whole_grows}
 
 module _ (renderer : RendererId) (name : ℕ) (kind : List ℕ) (plan : Plan) (line : List Part) (old now : Parts)
     (added : IsAdded renderer name kind plan line old now) where
@@ -96,3 +96,8 @@ module _ (renderer : RendererId) (name : ℕ) (kind : List ℕ) (plan : Plan) (l
     counts = subst (λ (table : Table). ChangesCount (λ (count : ℕ). count + 1) renderer.0 name table now.renderers) renderers_same added.enters.counts;
     rest = grown_so (ranges_are old.registry line can.there);
   }
+
+  -- so they stay whole
+  pub added_whole : length old.registry.names ≡ length old.registry.entries → Whole old → CanAdd renderer name plan line old → Whole (with_line now)
+  added_whole sized whole can =
+      whole_grows (new_blob renderer name kind plan line old added.laid) renderer old now sized can.alive whole (added_fits whole can) (added_grows can)

@@ -1,11 +1,11 @@
 -- The entry of a blob that is added views its items, and its sources were built.
-use Rattle.std.proofs.Common.{◌≡◌, ℕ, ◌+◌, ◌<◌, ◌≤◌, ◌==◌, ◌||◌, Bool, true, false, cond, List, [], ◌∷◌, ◌++◌, length, map, replicate, refl, sym, ap, subst, ◌∙◌, Option, Some, None, arith}
-use Rattle.std.specs.Prelude.{count_by, slice_get, IfSome, IsSomeAnd}
+use Rattle.std.proofs.Common.{◌≡◌, ℕ, ◌+◌, ◌<◌, ◌≤◌, ◌==◌, ◌||◌, false, cond, List, [], ◌∷◌, ◌++◌, length, map, refl, sym, ap, subst, ◌∙◌, Option, Some, None, arith}
+use Rattle.std.specs.Prelude.{count_by, slice_get, IsSomeAnd}
 use Rattle.std.specs.List.{AllByRecursion}
-use Rattle.std.specs.Option.{option_map}
 use Rattle.std.proofs.lemmas.Bool.Decides.{nat_tests}
 use Rattle.std.proofs.lemmas.List.{append-nil, length-append}
 use Rattle.std.proofs.lemmas.List.Sums.{sum_by-cons}
+use Rattle.std.proofs.lemmas.Option.{slice_get_within}
 use Rattle.blob_words.specs.declared.number.RendererId.{RendererId}
 use Rattle.blob_words.specs.declared.plan.Plan.{Plan}
 use Rattle.blob_words.specs.declared.plan.Plan.TheVariants as plans
@@ -14,7 +14,7 @@ use Rattle.item_shares.specs.Shares.{item_at, share_at}
 use Rattle.item_shares.specs.declared.item.Item.{Item}
 use Rattle.item_shares.specs.declared.shares.Share.{Share}
 use Rattle.blob_items.specs.declared.view.View.{View}
-use Rattle.blob_entries.specs.Counts.{one_at, views_on}
+use Rattle.blob_entries.specs.Counts.{views_on}
 use Rattle.blob_entries.specs.Holdings.{fixed_views, held_views, own_views}
 use Rattle.blob_entries.specs.declared.entry.Entry.{Entry}
 use Rattle.blob_entries.specs.declared.step.Step.{Step}
@@ -25,8 +25,9 @@ use Rattle.recent_items.specs.Recent.{is_there}
 use Rattle.transport_plan.specs.Spans.{piece_count}
 use Rattle.store_laws.specs.Items.{item_length}
 use Rattle.store_laws.specs.PartLaws.{recipe_of}
-use Rattle.blob_store.specs.Adding.{arrival_of, new_blob, CanAdd, IsThere}
-use Rattle.blob_store.specs.Blobs.{AreUnused, Awaits, Comes, IsInside, Views}
+use Rattle.store_laws.proofs.ViewHas.{append_first}
+use Rattle.blob_store.specs.Adding.{arrival_of, new_blob, CanAdd}
+use Rattle.blob_store.specs.Blobs.{Comes, IsInside, Views}
 use Rattle.blob_store.specs.Entering.{arrived, own_by, status_by}
 use Rattle.blob_store.specs.Laying.{first_piece, own_items, sending_by, slot_of}
 use Rattle.blob_store.specs.NewBlobs.{EntryFits}
@@ -40,22 +41,20 @@ use Rattle.blob_store.specs.declared.building.laying.Laid.{Laid}
 use Rattle.blob_store.specs.declared.parts.Parts.{Parts}
 use Rattle.blob_store.specs.declared.row.Row.{Row}
 use Rattle.blob_store.specs.declared.row.Sending.{Sending}
-use Rattle.blob_store.specs.declared.row.Sending.TheVariants.{Settled, Waiting, Gathering, Writing}
-use Rattle.blob_store.proofs.AddedItems.{fresh, ranges_many, seen, waiting_none, Came}
+use Rattle.blob_store.proofs.AddedItems.{ranges_many, waiting_none, Came}
 use Rattle.blob_store.proofs.AddedRecipe.{fixed_made, own_found, recipe_light, steps_known, weights_said}
-use Rattle.blob_store.proofs.AddedRow.{home_within, pieces_count}
-
-abbrev whole_item : Item → ℕ × ℕ
-whole_item item = (0, item_length item)
+use Rattle.blob_store.proofs.AddedRow.{pieces_count}
+use Rattle.blob_store.proofs.Arriving.{fresh, held, seen, whole}
 
 -- views of whole items lie inside them
 all_inside : (shares : List (Option Share)) (views : List View) (items : List Item) → seen shares views ≡ map fresh items
-    → map span views ≡ map whole_item items → AllByRecursion (IsInside shares) views
+    → map span views ≡ map whole items → AllByRecursion (IsInside shares) views
 all_inside shares [] items is long = tt
 all_inside shares (view ∷ views) [] is long = absurd (cc is)
-all_inside shares (view ∷ views) (item ∷ items) is long =
-    (subst (λ (found : Option Item). IsSomeAnd found (λ (one : Item). view.off + view.len ≤ item_length one)) (sym here) within,
-    all_inside shares views items rest_held rest_long)
+all_inside shares (view ∷ views) (item ∷ items) is long = (
+  subst (λ (found : Option Item). IsSomeAnd found (λ (one : Item). view.off + view.len ≤ item_length one)) (sym here) within,
+  all_inside shares views items rest_held rest_long,
+)
   where
     first : share_at shares view.slot ≡ fresh item
     first = cc is
@@ -63,21 +62,17 @@ all_inside shares (view ∷ views) (item ∷ items) is long =
     rest_held : seen shares views ≡ map fresh items
     rest_held = cc is
 
-    first_long : span view ≡ whole_item item
+    first_long : span view ≡ whole item
     first_long = cc long
 
-    rest_long : map span views ≡ map whole_item items
+    rest_long : map span views ≡ map whole items
     rest_long = cc long
 
     here : item_at shares view.slot ≡ Some item
-    here = ap (λ (one : Option Share). option_map (λ (share : Share). share.item) one) first
+    here = held shares view.slot item first
 
     within : view.off + view.len ≤ item_length item
     within = let off = ap (λ (one : ℕ × ℕ). one.0) first_long in let len = ap (λ (one : ℕ × ℕ). one.1) first_long in omega (arith, off, len)
-
-all_first : {X : Type 0} (P : X → Type 0) (xs ys : List X) → AllByRecursion P (xs ++ ys) → AllByRecursion P xs
-all_first P [] ys all = tt
-all_first P (x ∷ xs) ys all = (all.0, all_first P xs ys all.1)
 
 -- a slot is among those of views as often as they are on it
 slots_counted : (slot : ℕ) (views : List View) → count_by (λ (one : ℕ). one == slot) (map slot_of views) ≡ views_on slot views
@@ -95,7 +90,7 @@ unused_past shares homes piece (used ∷ order) past all = (λ i. other i || is_
     within : (found : Option ℕ) → slice_get homes used.0 ≡ found → IsSomeAnd found (λ (slot : ℕ). IsSomeAnd (item_at shares slot) (IsMemory used))
         → used.0 < length homes
     within None at is = absurd is
-    within (Some slot) at is = home_within homes used.0 slot at
+    within (Some slot) at is = slice_get_within homes used.0 slot at
 
     other : (piece == used.0) ≡ false
     other = let below = within (slice_get homes used.0) refl all.0 in grind (arith, nat_tests)
@@ -168,7 +163,7 @@ module _ (renderer : RendererId) (name : ℕ) (kind : List ℕ) (plan : Plan) (l
   views_so = record {
     inside = subst (AllByRecursion (IsInside now.shares)) (sym held_so)
         (all_append (IsInside now.shares) laid.ranges (own_views (own_by plan laid.pieces))
-        (all_first (IsInside now.shares) laid.ranges laid.pieces all)
+        (append_first (IsInside now.shares) laid.ranges laid.pieces all)
         (own_some (AllByRecursion (IsInside now.shares)) tt (append_second (IsInside now.shares) laid.ranges laid.pieces all)));
     there = tt;
   }
