@@ -60,7 +60,8 @@ fixed_made page number (view ∷ views) (HandleRange k off (suc len) ∷ parts) 
 
 -- ---- it has a step for each own piece
 
-own_kept : (number : ℕ) (lengths : List ℕ) (rest : List Step) → filter is_own (own_steps number lengths ++ rest) ≡ own_steps number lengths ++ filter is_own rest
+own_kept : (number : ℕ) (lengths : List ℕ) (rest : List Step)
+    → filter is_own (own_steps number lengths ++ rest) ≡ own_steps number lengths ++ filter is_own rest
 own_kept number [] rest = refl
 own_kept number (len ∷ lengths) rest = ap (λ (list : List Step). Own (piece_no number) len ∷ list) (own_kept (number + 1) lengths rest)
 
@@ -128,7 +129,8 @@ own_weightless names weights number (len ∷ lengths) rest =
     omega (arith, sums, own_weightless names weights (number + 1) lengths rest)
 
 module _ (book : Book) (weights : List ℕ) (said : PartsSaid)
-    (light : (P : Entry → Type 0) (b : ℕ) → IsSomeAnd (entry_of book b) P → option_map_or (slice_index weights) (number_of b book.names) 0 ≤ weight_in said b) where
+    (light : (P : Entry → Type 0) (b : ℕ) → IsSomeAnd (entry_of book b) P
+    → option_map_or (slice_index weights) (number_of b book.names) 0 ≤ weight_in said b) where
   abbrev needs : ℕ → List View → List Part → ℕ
   needs number views parts =
       (length views + piece_count said.limits.page (own_lengths parts)) + cut_weight book.names weights (recipe_of said.limits.page number views parts)

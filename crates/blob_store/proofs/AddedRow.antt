@@ -79,7 +79,8 @@ range_below last item is = subst (λ (found : Option ℕ). IfSome found (λ (num
 
 -- ---- pieces on their way
 
-on_their_way : (shares : List (Option Share)) (number : ℕ) (lengths : List ℕ) (views : List View) → seen shares views ≡ map fresh (reserved_items number lengths)
+on_their_way : (shares : List (Option Share)) (number : ℕ) (lengths : List ℕ) (views : List View)
+    → seen shares views ≡ map fresh (reserved_items number lengths)
     → AreOnTheirWay shares number lengths (map slot_of views) (replicate (length views) false)
 on_their_way shares number [] [] is = tt
 on_their_way shares number [] (view ∷ views) is = absurd (cc is)
@@ -195,9 +196,11 @@ module _ (plan : Plan) (line : List Part) (old : Parts) (laid : Laid) (shares : 
           by (plans.TooMany what) none same = absurd (omega (arith, same, within, past))
 
   -- how the own bytes come
-  planned_so : FitsPlan (input_in (parts_of old) line) plan → (n : ℕ) → plan ≡ plans.Shared n → plan ≡ plans.Shared (div_ceil (own_bytes line) old.limits.segment)
+  planned_so : FitsPlan (input_in (parts_of old) line) plan → (n : ℕ) → plan ≡ plans.Shared n
+      → plan ≡ plans.Shared (div_ceil (own_bytes line) old.limits.segment)
   planned_so planned n shared =
-      let told : FitsPlan (input_in (parts_of old) line) (plans.Shared n) = subst (λ (one : Plan). FitsPlan (input_in (parts_of old) line) one) shared planned in
+      let told : FitsPlan (input_in (parts_of old) line) (plans.Shared n) =
+      subst (λ (one : Plan). FitsPlan (input_in (parts_of old) line) one) shared planned in
       let own : length (embedded line) + (own_bytes line - length (embedded line)) ≡ own_bytes line = omega (arith, embedded_within line) in
       shared ∙ ap (λ (many : ℕ). plans.Shared many) (told.0 ∙ ap (λ (bytes : ℕ). div_ceil bytes old.limits.segment) own)
 
