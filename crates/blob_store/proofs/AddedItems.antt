@@ -2,7 +2,6 @@
 use Rattle.std.proofs.Common.{◌≡◌, ℕ, zero, suc, ◌+◌, ◌≤◌, ◌==◌, ◌||◌, Bool, true, false, cond, List, [], ◌∷◌, ◌++◌, length, map, refl, sym, ap, subst, ◌∙◌, Option, Some, None, arith}
 use Rattle.std.specs.Prelude.{◌^◌, ◌-◌, slice_get, sum_by, IfSome}
 use Rattle.std.specs.List.{AllByRecursion}
-use Rattle.std.specs.Option.{option_map}
 use Rattle.std.proofs.lemmas.Bool.{eqb-true}
 use Rattle.std.proofs.lemmas.List.{append_assoc, length-append, length-map}
 use Rattle.std.proofs.lemmas.List.Folds.{list_any-append}
@@ -12,7 +11,7 @@ use Rattle.blob_words.specs.declared.plan.Plan.{Plan}
 use Rattle.blob_words.specs.declared.plan.Plan.TheVariants as plans
 use Rattle.session_script.specs.declared.event.Part.{Part}
 use Rattle.session_script.specs.declared.event.Part.TheVariants.{Embedded, Asked, FileRange, BlobRange, HandleRange}
-use Rattle.item_shares.specs.Shares.{item_at, share_at, share_of}
+use Rattle.item_shares.specs.Shares.{item_at, share_at}
 use Rattle.item_shares.specs.Weights.{weights}
 use Rattle.item_shares.specs.declared.item.Item.{Item}
 use Rattle.item_shares.specs.declared.item.Item.TheVariants.{Memory, Paged, Reserved, File, Range}
@@ -35,12 +34,7 @@ use Rattle.blob_store.specs.Putting.{ArePut, is_seen}
 use Rattle.blob_store.specs.Stored.{IsHeld}
 use Rattle.blob_store.specs.declared.building.laying.Laid.{Laid}
 use Rattle.blob_store.specs.declared.parts.Parts.{Parts}
-
-abbrev pub fresh : Item → Option Share
-fresh item = Some (share_of item 1)
-
-abbrev pub seen : List (Option Share) → List View → List (Option Share)
-seen shares views = map (λ (view : View). share_at shares view.slot) views
+use Rattle.blob_store.proofs.Arriving.{fresh, held, seen, seen_item}
 
 -- ---- items of pieces, numbered in turn
 
@@ -170,9 +164,6 @@ ranges_later last (item ∷ items) are =
 
 -- ---- what slots hold
 
-held_there : (shares : List (Option Share)) (slot : ℕ) (item : Item) → share_at shares slot ≡ fresh item → item_at shares slot ≡ Some item
-held_there shares slot item is = ap (λ (one : Option Share). option_map (λ (share : Share). share.item) one) is
-
 -- of items that come one behind the other the first ones
 pub seen_first : (shares : List (Option Share)) (views more : List View) (items rest : List Item) → length more ≡ length rest
     → seen shares (views ++ more) ≡ map fresh (items ++ rest) → seen shares views ≡ map fresh items
@@ -194,27 +185,6 @@ seen_first shares (view ∷ views) more (item ∷ items) rest many is =
     let behind : seen shares (views ++ more) ≡ map fresh (items ++ rest) = cc is in
     ap (λ (one : Option Share). one ∷ seen shares views) first
     ∙ ap (λ (list : List (Option Share)). fresh item ∷ list) (seen_first shares views more items rest many behind)
-
--- what holds of each item holds of the item of a slot that is seen
-pub seen_item : (P : Item → Type 0) (shares : List (Option Share)) (slot : ℕ) (views : List View) (items : List Item) → seen shares views ≡ map fresh items
-    → AllByRecursion P items → is_seen slot views ≡ true → IfSome (item_at shares slot) P
-seen_item P shares slot [] items is all at = absurd (cc at)
-seen_item P shares slot (view ∷ views) [] is all at = absurd (cc is)
-seen_item P shares slot (view ∷ views) (item ∷ items) is all at =
-    by (λ more. seen_item P shares slot views items rest all.1 more) (view.slot == slot) refl at
-  where
-    first : share_at shares view.slot ≡ fresh item
-    first = cc is
-
-    rest : seen shares views ≡ map fresh items
-    rest = cc is
-
-    by : (is_seen slot views ≡ true → IfSome (item_at shares slot) P) → (b : Bool) → (view.slot == slot) ≡ b → (b || is_seen slot views) ≡ true
-        → IfSome (item_at shares slot) P
-    by behind true same at =
-        subst (λ (one : Option Item). IfSome one P)
-        (sym (subst (λ (n : ℕ). item_at shares n ≡ Some item) (eqb-true view.slot slot same) (held_there shares view.slot item first))) all.0
-    by behind false same at = behind at
 
 home_last : (before : List ℕ) (slot : ℕ) (more : List ℕ) → slice_get (before ++ slot ∷ more) (length before) ≡ Some slot
 home_last [] slot more = refl
@@ -249,7 +219,7 @@ pieces_home shares pages slot number before homes (view ∷ views) (item ∷ ite
 
     here : IfSome (item_at shares view.slot) (IsHeld homes pages view.slot)
     here =
-        subst (λ (found : Option Item). IfSome found (IsHeld homes pages view.slot)) (sym (held_there shares view.slot item first)) (one item are.0)
+        subst (λ (found : Option Item). IfSome found (IsHeld homes pages view.slot)) (sym (held shares view.slot item first)) (one item are.0)
 
     by : (is_seen slot views ≡ true → IfSome (item_at shares slot) (IsHeld homes pages slot)) → (b : Bool) → (view.slot == slot) ≡ b
         → (b || is_seen slot views) ≡ true → IfSome (item_at shares slot) (IsHeld homes pages slot)

@@ -1,23 +1,24 @@
 -- The row of a blob that is added goes on where the last one ended.
-use Rattle.std.proofs.Common.{◌≡◌, ℕ, zero, suc, ◌+◌, ◌-◌, ◌<◌, ◌≤◌, ◌||◌, Bool, true, false, List, [], ◌∷◌, ◌++◌, length, map, replicate, refl, sym, ap, subst, ◌∙◌, Option, Some, None, arith}
-use Rattle.std.specs.Prelude.{slice_get, sum_by, IfSome, IsSomeAnd}
+use Rattle.std.proofs.Common.{◌≡◌, ℕ, suc, ◌+◌, ◌-◌, ◌<◌, ◌≤◌, ◌||◌, Bool, true, false, List, [], ◌∷◌, ◌++◌, length, map, replicate, refl, sym, ap, subst, ◌∙◌, Option, Some, None, arith}
+use Rattle.std.specs.Prelude.{sum_by, IfSome, IsSomeAnd}
 use Rattle.std.specs.Int.{div_ceil}
 use Rattle.std.specs.List.{AllByRecursion}
 use Rattle.std.specs.Option.{option_map}
 use Rattle.std.proofs.lemmas.Bool.Decides.{nat_tests}
-use Rattle.std.proofs.lemmas.List.{length-append, length-map, length-replicate}
-use Rattle.std.proofs.lemmas.List.Sums.{sum_by-append, sum_by-cons}
+use Rattle.std.proofs.lemmas.List.{length-map, length-replicate}
+use Rattle.std.proofs.lemmas.List.Sums.{sum_by-append}
+use Rattle.std.proofs.lemmas.Option.{slice_get_within}
 use Rattle.blob_words.specs.declared.number.RendererId.{RendererId}
 use Rattle.blob_words.specs.declared.plan.Plan.{Plan}
 use Rattle.blob_words.specs.declared.plan.Plan.TheVariants as plans
 use Rattle.session_script.specs.declared.event.Part.{Part}
-use Rattle.session_script.specs.declared.event.Part.TheVariants.{Embedded, Asked, FileRange, BlobRange, HandleRange}
 use Rattle.item_shares.specs.Shares.{item_at, share_at}
 use Rattle.item_shares.specs.declared.item.Item.{Item}
 use Rattle.item_shares.specs.declared.item.Item.TheVariants.{Memory, Paged, Reserved, File, Range}
 use Rattle.item_shares.specs.declared.shares.Share.{Share}
 use Rattle.blob_items.specs.declared.view.View.{View}
 use Rattle.blob_model.specs.Parts.{embedded, own_bytes, own_lengths}
+use Rattle.blob_model.proofs.kept.NewBlobs.{embedded_within}
 use Rattle.page_files.specs.declared.page.Page.{Page}
 use Rattle.transport_plan.specs.Plan.{FitsPlan}
 use Rattle.transport_plan.specs.Spans.{piece_count}
@@ -39,7 +40,8 @@ use Rattle.blob_store.specs.declared.parts.Parts.{Parts}
 use Rattle.blob_store.specs.declared.row.Row.{Row}
 use Rattle.blob_store.specs.declared.row.Sending.{Sending}
 use Rattle.blob_store.specs.declared.row.Sending.TheVariants.{Settled, Waiting, Writing}
-use Rattle.blob_store.proofs.AddedItems.{fresh, numbered_many, own_numbered, pieces_many, range_pieceless, ranges_are, ranges_no_pieces, seen, seen_item, waiting_none, Came, IsRange}
+use Rattle.blob_store.proofs.AddedItems.{numbered_many, own_numbered, pieces_many, range_pieceless, ranges_are, ranges_no_pieces, waiting_none, Came, IsRange}
+use Rattle.blob_store.proofs.Arriving.{fresh, seen, seen_item}
 use Rattle.blob_store.proofs.OwnPieces.{many_brought}
 use Rattle.blob_store.proofs.Staying.{items_still}
 
@@ -65,16 +67,10 @@ none_held number last (held ∷ shares) past below = by (one held (below 0)) (no
     one None below = refl
     one (Some share) below = other (piece_of_item share.item) below
 
--- a home that there is has a number below their count
-pub home_within : (homes : List ℕ) (number slot : ℕ) → slice_get homes number ≡ Some slot → number < length homes
-home_within [] number slot is = absurd (cc is)
-home_within (one ∷ homes) zero slot is = omega arith
-home_within (one ∷ homes) (suc number) slot is = let rest = home_within homes number slot is in omega (arith, rest)
-
 held_below : (homes : List ℕ) (pages : List Page) (slot : ℕ) (item : Item) → IsHeld homes pages slot item → IsBelow (length homes) item
-held_below homes pages slot (Memory piece bytes) is = home_within homes piece.0 slot is.home
-held_below homes pages slot (Paged piece page off len) is = home_within homes piece.0 slot is.home
-held_below homes pages slot (Reserved piece len) is = home_within homes piece.0 slot is.home
+held_below homes pages slot (Memory piece bytes) is = slice_get_within homes piece.0 slot is.home
+held_below homes pages slot (Paged piece page off len) is = slice_get_within homes piece.0 slot is.home
+held_below homes pages slot (Reserved piece len) is = slice_get_within homes piece.0 slot is.home
 held_below homes pages slot (File name stamp off len) is = tt
 held_below homes pages slot (Range handle off len) is = tt
 
@@ -83,7 +79,8 @@ range_below last item is = subst (λ (found : Option ℕ). IfSome found (λ (num
 
 -- ---- pieces on their way
 
-on_their_way : (shares : List (Option Share)) (number : ℕ) (lengths : List ℕ) (views : List View) → seen shares views ≡ map fresh (reserved_items number lengths)
+on_their_way : (shares : List (Option Share)) (number : ℕ) (lengths : List ℕ) (views : List View)
+    → seen shares views ≡ map fresh (reserved_items number lengths)
     → AreOnTheirWay shares number lengths (map slot_of views) (replicate (length views) false)
 on_their_way shares number [] [] is = tt
 on_their_way shares number [] (view ∷ views) is = absurd (cc is)
@@ -102,23 +99,6 @@ on_their_way shares number (len ∷ lengths) (view ∷ views) is =
 
     reserved : Item → Type 0
     reserved = IsOnItsWay number len false
-
--- ---- own bytes of the line
-
-embedded_within : (parts : List Part) → length (embedded parts) ≤ own_bytes parts
-embedded_within [] = omega arith
-embedded_within (Embedded bytes ∷ parts) =
-    let rest = embedded_within parts in
-    let left = length-append bytes (embedded parts) in
-    let right = sum_by-cons (λ (x : ℕ). x) (length bytes) (own_lengths parts) in
-    omega (arith, rest, left, right)
-embedded_within (Asked len ∷ parts) =
-    let rest = embedded_within parts in
-    let right = sum_by-cons (λ (x : ℕ). x) len (own_lengths parts) in
-    omega (arith, rest, right)
-embedded_within (FileRange name off len stamp ∷ parts) = embedded_within parts
-embedded_within (BlobRange b off len ∷ parts) = embedded_within parts
-embedded_within (HandleRange k off len ∷ parts) = embedded_within parts
 
 -- ---- the row
 
@@ -216,9 +196,11 @@ module _ (plan : Plan) (line : List Part) (old : Parts) (laid : Laid) (shares : 
           by (plans.TooMany what) none same = absurd (omega (arith, same, within, past))
 
   -- how the own bytes come
-  planned_so : FitsPlan (input_in (parts_of old) line) plan → (n : ℕ) → plan ≡ plans.Shared n → plan ≡ plans.Shared (div_ceil (own_bytes line) old.limits.segment)
+  planned_so : FitsPlan (input_in (parts_of old) line) plan → (n : ℕ) → plan ≡ plans.Shared n
+      → plan ≡ plans.Shared (div_ceil (own_bytes line) old.limits.segment)
   planned_so planned n shared =
-      let told : FitsPlan (input_in (parts_of old) line) (plans.Shared n) = subst (λ (one : Plan). FitsPlan (input_in (parts_of old) line) one) shared planned in
+      let told : FitsPlan (input_in (parts_of old) line) (plans.Shared n) =
+      subst (λ (one : Plan). FitsPlan (input_in (parts_of old) line) one) shared planned in
       let own : length (embedded line) + (own_bytes line - length (embedded line)) ≡ own_bytes line = omega (arith, embedded_within line) in
       shared ∙ ap (λ (many : ℕ). plans.Shared many) (told.0 ∙ ap (λ (bytes : ℕ). div_ceil bytes old.limits.segment) own)
 

@@ -1,5 +1,5 @@
 -- What came under slots holds the ranges of parts, and the pieces.
-use Rattle.std.proofs.Common.{◌≡◌, ℕ, zero, suc, ◌+◌, ◌==◌, ◌||◌, Bool, true, false, List, [], ◌∷◌, length, map, refl, sym, ap, subst, ◌∙◌, Option, Some, None, IfSome, IsSomeAnd, arith}
+use Rattle.std.proofs.Common.{◌≡◌, ℕ, zero, suc, ◌+◌, ◌==◌, ◌||◌, Bool, true, false, List, [], ◌∷◌, length, map, refl, sym, ap, subst, ◌∙◌, Option, Some, None, IfSome, IsSomeAnd}
 use Rattle.std.specs.List.{AllByRecursion}
 use Rattle.std.specs.Option.{option_map}
 use Rattle.std.proofs.lemmas.Bool.{eqb-true}
@@ -19,17 +19,17 @@ use Rattle.blob_store.specs.NewItems.{memory_items, range_items, reserved_items}
 use Rattle.blob_store.specs.Putting.{ArePut, is_seen, span}
 use Rattle.blob_store.proofs.Putting.{seen_vacant}
 
-abbrev fresh : Item → Option Share
+abbrev pub fresh : Item → Option Share
 fresh item = Some (share_of item 1)
 
-abbrev whole : Item → ℕ × ℕ
+abbrev pub whole : Item → ℕ × ℕ
 whole item = (0, item_length item)
 
-abbrev seen : List (Option Share) → List View → List (Option Share)
+abbrev pub seen : List (Option Share) → List View → List (Option Share)
 seen shares views = map (λ (view : View). share_at shares view.slot) views
 
 -- the item of a slot that holds it
-held : (shares : List (Option Share)) (slot : ℕ) (item : Item) → share_at shares slot ≡ fresh item → item_at shares slot ≡ Some item
+pub held : (shares : List (Option Share)) (slot : ℕ) (item : Item) → share_at shares slot ≡ fresh item → item_at shares slot ≡ Some item
 held shares slot item is = ap (λ (one : Option Share). option_map (λ (share : Share). share.item) one) is
 
 all_of : (view : View) (len : ℕ) → span view ≡ (0, len) → IsAll len view
@@ -97,21 +97,21 @@ same_item : (here : Option Item) (item : Option Item) → here ≡ item → IfSo
 same_item here None is = tt
 same_item here (Some item) is = is
 
-module _ (all : List Piece) (facts : Facts) (count : ℕ) (old new : List (Option Share)) where
-  seen_new : (slot : ℕ) (views : List View) (items : List Item) → seen new views ≡ map fresh items → AllByRecursion (IsNew all facts count) items
-      → is_seen slot views ≡ true → IfSome (item_at new slot) (IsNew all facts count)
-  seen_new slot [] items is news at = absurd (cc at)
-  seen_new slot (view ∷ views) [] is news at = absurd (cc is)
-  seen_new slot (view ∷ views) (item ∷ items) is news at =
-      by (seen_new slot views items (rest_of _ _ _ _ is) news.1) (held new view.slot item (first_of _ _ _ _ is)) (view.slot == slot) refl at
-    where
-      by : (is_seen slot views ≡ true → IfSome (item_at new slot) (IsNew all facts count)) → item_at new view.slot ≡ Some item → (b : Bool)
-          → (view.slot == slot) ≡ b → (b || is_seen slot views) ≡ true → IfSome (item_at new slot) (IsNew all facts count)
-      by behind here true same at =
-          subst (λ (one : Option Item). IfSome one (IsNew all facts count))
-          (sym (subst (λ (n : ℕ). item_at new n ≡ Some item) (eqb-true view.slot slot same) here)) news.0
-      by behind here false same at = behind at
+-- what holds of each item holds of the item of a slot that is seen
+pub seen_item : (P : Item → Type 0) (shares : List (Option Share)) (slot : ℕ) (views : List View) (items : List Item) → seen shares views ≡ map fresh items
+    → AllByRecursion P items → is_seen slot views ≡ true → IfSome (item_at shares slot) P
+seen_item P shares slot [] items is all at = absurd (cc at)
+seen_item P shares slot (view ∷ views) [] is all at = absurd (cc is)
+seen_item P shares slot (view ∷ views) (item ∷ items) is all at =
+    by (seen_item P shares slot views items (rest_of _ _ _ _ is) all.1) (held shares view.slot item (first_of _ _ _ _ is)) (view.slot == slot) refl at
+  where
+    by : (is_seen slot views ≡ true → IfSome (item_at shares slot) P) → item_at shares view.slot ≡ Some item → (b : Bool) → (view.slot == slot) ≡ b
+        → (b || is_seen slot views) ≡ true → IfSome (item_at shares slot) P
+    by behind here true same at =
+        subst (λ (one : Option Item). IfSome one P) (sym (subst (λ (n : ℕ). item_at shares n ≡ Some item) (eqb-true view.slot slot same) here)) all.0
+    by behind here false same at = behind at
 
+module _ (all : List Piece) (facts : Facts) (count : ℕ) (old new : List (Option Share)) where
   pub put_added : (items : List Item) (views : List View) → ArePut old items views new → AllByRecursion (IsNew all facts count) items → AreOnePerPiece new
       → AreAdded all facts count old new
   put_added items views put news apart = record {
@@ -130,5 +130,5 @@ module _ (all : List Piece) (facts : Facts) (count : ℕ) (old new : List (Optio
       kept slot false at = same_item (item_at new slot) (item_at old slot) (item_same slot at)
 
       added : (slot : ℕ) → item_at old slot ≡ None → (b : Bool) → is_seen slot views ≡ b → IfSome (item_at new slot) (IsNew all facts count)
-      added slot none true at = seen_new slot views items put.held news at
+      added slot none true at = seen_item (IsNew all facts count) new slot views items put.held news at
       added slot none false at = subst (λ (one : Option Item). IfSome one (IsNew all facts count)) (sym (item_same slot at ∙ none)) tt

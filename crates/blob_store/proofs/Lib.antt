@@ -43,3 +43,6 @@ pub mod Breaking
 pub mod AddedItems
 pub mod AddedRow
 pub mod CanAdd
+pub mod AddedRecipe
+pub mod AddedEntry
+pub mod AddedWhole
