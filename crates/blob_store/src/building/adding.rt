@@ -8,9 +8,9 @@ use blob_words::{BlobName, NoMemory, Plan, RendererId, Status};
 use session_script::Part;
 
 impl Parts {
-    /// A blob comes whose plan is this: its items, its entry and its row.
+    // The items of a blob with a plan come, its entry and its row.
     #[tactic(auto, unfolding(crate::specs::Whole::IsWhole))]
-    pub(crate) fn add_planned(
+    fn place_blob(
         &mut self,
         renderer: RendererId,
         name: BlobName,
@@ -28,6 +28,27 @@ impl Parts {
         let laid = self.lay(name, plan, parts)?;
         let arrival = self.arrival(plan, weight, first, parts, laid)?;
         self.enter(renderer, name, kind, arrival)?;
+        Ok(())
+    }
+
+    /// A blob comes whose plan is this: its items, its entry and its row.
+    #[tactic(auto, unfolding(crate::specs::Whole::IsWhole))]
+    pub(crate) fn add_planned(
+        &mut self,
+        renderer: RendererId,
+        name: BlobName,
+        kind: &[u8],
+        plan: Plan,
+        parts: &[Part],
+    ) -> Result<(), NoMemory>
+        requires whole { IsWhole self.old }
+        requires can { CanAdd renderer name plan parts.now self.old }
+        ensures whole { OnOk result (IsWhole (with_line self.new)) }
+        ensures added { OnOk result
+            (IsAdded renderer name kind.now plan parts.now self.old self.new) }
+    {
+        let _count = self.registry.registered(); // says that there are as many names as entries
+        self.place_blob(renderer, name, kind, plan, parts)?;
         Ok(())
     }
 
