@@ -22,6 +22,10 @@ pub mod Opened
 pub mod HeardReaders
 pub mod OwnBytes
 pub mod Slots
+pub mod Settling
+pub mod PiecesGoing
+pub mod ItemsLeft
+pub mod Unpinning
 pub mod Weighing
 pub mod Refused
 pub mod Putting
