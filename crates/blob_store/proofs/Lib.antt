@@ -23,6 +23,8 @@ pub mod HeardReaders
 pub mod OwnBytes
 pub mod Slots
 pub mod Settling
+pub mod SettledRows
+pub mod SettledRow
 pub mod PiecesGoing
 pub mod ItemsLeft
 pub mod Unpinning

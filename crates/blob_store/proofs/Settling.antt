@@ -45,7 +45,7 @@ written_back rows given number row sending same less ends =
 
 -- ---- what the rows take together, without one that is settled
 
-sum_settled : (f : Row → ℕ) (rows : List Row) (number : ℕ) (row : Row) → slice_get rows number ≡ Some row
+pub sum_settled : (f : Row → ℕ) (rows : List Row) (number : ℕ) (row : Row) → slice_get rows number ≡ Some row
     → sum_by f rows + f (settled_row row) ≡ sum_by f (settled_at number rows) + f row
 sum_settled f [] zero row at = absurd (cc at)
 sum_settled f [] (suc number) row at = absurd (cc at)
@@ -62,7 +62,7 @@ sum_settled f (one ∷ rows) (suc number) row at =
     let more = sum_settled f rows number row at in omega (arith, was, now, more)
 
 -- how often a slot is among those of one blob
-abbrev pins_of : ℕ → Row → ℕ
+abbrev pub pins_of : ℕ → Row → ℕ
 pins_of slot row = count_by (λ (one : ℕ). one == slot) (sending_slots row.sending)
 
 pins_sum : (slot : ℕ) (rows : List Row) → pins slot rows ≡ sum_by (pins_of slot) rows
@@ -73,7 +73,7 @@ pins_sum slot (row ∷ rows) =
     let all = sum_by-cons (pins_of slot) row rows in
     let more = pins_sum slot rows in omega (arith, parted, all, more)
 
-pins_settled : (slot : ℕ) (rows : List Row) (number : ℕ) (row : Row) → slice_get rows number ≡ Some row
+pub pins_settled : (slot : ℕ) (rows : List Row) (number : ℕ) (row : Row) → slice_get rows number ≡ Some row
     → pins slot rows ≡ pins slot (settled_at number rows) + pins_of slot row
 pins_settled slot rows number row at =
     let was = pins_sum slot rows in
