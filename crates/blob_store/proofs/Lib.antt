@@ -25,6 +25,7 @@ pub mod Slots
 pub mod Settling
 pub mod SettledRows
 pub mod SettledRow
+pub mod RowsGoing
 pub mod PiecesGoing
 pub mod ItemsLeft
 pub mod Unpinning
