@@ -26,6 +26,9 @@ pub mod Settling
 pub mod SettledRows
 pub mod SettledRow
 pub mod RowsGoing
+pub mod SweptEntries
+pub mod OnTheirWay
+pub mod StoredLeft
 pub mod PiecesGoing
 pub mod ItemsLeft
 pub mod Unpinning

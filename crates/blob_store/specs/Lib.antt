@@ -14,6 +14,7 @@ pub mod Gone
 pub mod Openings
 pub mod Departing
 pub mod Dropping
+pub mod Unheld
 pub mod NewItems
 pub mod Putting
 pub mod Arriving
