@@ -29,6 +29,10 @@ pub mod RowsGoing
 pub mod SweptEntries
 pub mod OnTheirWay
 pub mod StoredLeft
+pub mod QueueLeft
+pub mod BlobsLeft
+pub mod HoldersLeft
+pub mod WholeLeft
 pub mod PiecesGoing
 pub mod ItemsLeft
 pub mod Unpinning

@@ -16,11 +16,11 @@ use Rattle.store_laws.specs.Weights.{memory_weight, piece_weight, range_weight, 
 use Rattle.blob_store.specs.declared.parts.Parts.{Parts}
 use Rattle.blob_store.specs.Dropping.{PiecesGo}
 
-fold_append : {X Y : Type 0} (f : Y → X → Y) (one two : List X) (start : Y) → fold f start (one ++ two) ≡ fold f (fold f start one) two
+pub fold_append : {X Y : Type 0} (f : Y → X → Y) (one two : List X) (start : Y) → fold f start (one ++ two) ≡ fold f (fold f start one) two
 fold_append f [] two start = refl
 fold_append f (x ∷ one) two start = fold_append f one two (f start x)
 
-freed_more : (shares between later : List (Option Share)) (one two : List Item) → AreFreed shares between one → AreFreed between later two
+pub freed_more : (shares between later : List (Option Share)) (one two : List Item) → AreFreed shares between one → AreFreed between later two
     → AreFreed shares later (one ++ two)
 freed_more shares between later one two first second = record {
   still = λ slot. by slot (item_at later slot) (second.still slot);

@@ -7,6 +7,7 @@ use Rattle.blob_words.specs.declared.limits.Limits.{Limits}
 use Rattle.item_shares.specs.Shares.{item_at}
 use Rattle.item_shares.specs.Weights.{weights}
 use Rattle.item_shares.specs.declared.item.Item.{Item}
+use Rattle.item_shares.specs.declared.item.Item.TheVariants.{Memory, Paged, Reserved, File, Range}
 use Rattle.item_shares.specs.declared.shares.Share.{Share}
 use Rattle.blob_entries.specs.Counts.{count_at}
 use Rattle.page_files.specs.Files.{Files}
@@ -65,7 +66,11 @@ module _ (limits : Limits) (homes : List ℕ) (shares later : List (Option Share
   limit_left is = kept_limit freed files ∙ is
     where
       one : (item : Item) (some_files : Files) → (let_go_by some_files item).limit ≡ some_files.limit
-      one item some_files = ?
+      one (Memory piece bytes) some_files = refl
+      one (Paged piece page off len) some_files = refl
+      one (Reserved piece len) some_files = refl
+      one (File name stamp off len) some_files = refl
+      one (Range slot off len) some_files = refl
 
       kept_limit : (list : List Item) (some_files : Files) → (fold let_go_by some_files list).limit ≡ some_files.limit
       kept_limit [] some_files = refl
