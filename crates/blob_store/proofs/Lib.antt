@@ -33,6 +33,8 @@ pub mod QueueLeft
 pub mod BlobsLeft
 pub mod HoldersLeft
 pub mod WholeLeft
+pub mod ObjectsLeft
+pub mod DropsHeard
 pub mod PiecesGoing
 pub mod ItemsLeft
 pub mod Unpinning
