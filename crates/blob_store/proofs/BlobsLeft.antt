@@ -1,10 +1,11 @@
 -- Entries, their items and the rows beside them agree again when entries went.
-use Rattle.std.proofs.Common.{◌≡◌, ℕ, zero, suc, ◌+◌, ◌-◌, ◌<◌, ◌≤◌, ◌==◌, ◌||◌, not, Bool, true, false, cond, List, [], ◌∷◌, ◌++◌, Option, Some, None, length, map, refl, ap, subst, sym, ◌∙◌, arith}
-use Rattle.std.specs.Prelude.{filter, flat_map, fold, nat_eq, slice_get, slice_index, sum, IfSome, IsSomeAnd}
+use Rattle.std.proofs.Common.{◌≡◌, ℕ, ◌+◌, ◌<◌, ◌≤◌, ◌==◌, ◌||◌, not, Bool, true, false, cond, List, [], ◌∷◌, ◌++◌, Option, Some, None, length, refl, ap, subst}
+use Rattle.std.proofs.Common.{sym, ◌∙◌, arith}
+use Rattle.std.specs.Prelude.{filter, flat_map, fold, nat_eq, slice_get, slice_index, IfSome, IsSomeAnd}
 use Rattle.std.specs.List.{list_any, AllByRecursion}
 use Rattle.std.specs.Option.{option_map, option_map_or}
-use Rattle.std.proofs.lemmas.Bool.{eq-eqb, eqb-true}
-use Rattle.std.proofs.lemmas.Option.{get_or_from_slice_get, slice_get_within, slice_get-get_or}
+use Rattle.std.proofs.lemmas.Bool.{eq-eqb}
+use Rattle.std.proofs.lemmas.Option.{slice_get_within, slice_get-get_or}
 use Rattle.blob_words.specs.declared.status.Status.{Status}
 use Rattle.blob_words.specs.declared.status.Status.TheVariants as statuses
 use Rattle.item_shares.specs.Shares.{item_at}
@@ -14,9 +15,9 @@ use Rattle.item_shares.specs.declared.shares.Share.{Share}
 use Rattle.blob_items.specs.declared.view.View.{View}
 use Rattle.blob_entries.specs.Book.{Book, book_of, entry_at}
 use Rattle.blob_entries.specs.Contents.{is_own}
-use Rattle.blob_entries.specs.Counts.{count_at, one_at, views_on}
-use Rattle.blob_entries.specs.Holdings.{fixed_views, held_views, own_views, views_in}
-use Rattle.blob_entries.specs.Leaving.{left, shed}
+use Rattle.blob_entries.specs.Counts.{count_at, views_on}
+use Rattle.blob_entries.specs.Holdings.{fixed_views, held_views, own_views}
+use Rattle.blob_entries.specs.Leaving.{left}
 use Rattle.blob_entries.specs.Names.{number_of}
 use Rattle.blob_entries.specs.Statuses.{is_broken, is_pending}
 use Rattle.blob_entries.specs.Weights.{cut_weight}
@@ -26,7 +27,7 @@ use Rattle.blob_entries.proofs.Holdings.{in_at, on_held}
 use Rattle.blob_registry.specs.Sweeps.{dropped, swept}
 use Rattle.page_files.specs.Files.{Files}
 use Rattle.quota_queue.specs.Queue.{without as unqueued, Queue}
-use Rattle.recent_items.specs.Recent.{is_there, without}
+use Rattle.recent_items.specs.Recent.{is_there}
 use Rattle.blob_model.proofs.Lists.{false_true}
 use Rattle.store_laws.specs.Items.{item_length}
 use Rattle.store_laws.specs.LetGo.{left_by}
@@ -34,13 +35,12 @@ use Rattle.store_laws.specs.PartLaws.{own_steps, piece_lengths}
 use Rattle.blob_store.specs.declared.row.Row.{Row}
 use Rattle.blob_store.specs.declared.row.Sending.{Sending}
 use Rattle.blob_store.specs.declared.row.Sending.TheVariants.{Settled, Waiting, Gathering, Writing}
-use Rattle.blob_store.specs.Blobs.{AreUnused, AreWeighed, Awaits, Blobs, Charged, Comes, IsAwaited, IsInside, IsThere, Views}
-use Rattle.blob_store.specs.Dropping.{settled_by, settled_row}
-use Rattle.blob_store.specs.Rows.{pieces_of_row, waiting}
+use Rattle.blob_store.specs.Blobs.{AreUnused, AreWeighed, Awaits, Blobs, Charged, Comes, IsAwaited, IsThere, Views}
+use Rattle.blob_store.specs.Dropping.{settled_by}
 use Rattle.blob_store.specs.Stored.{row_weights}
 use Rattle.blob_store.proofs.QueueLeft.{queue_rows}
 use Rattle.blob_store.proofs.SettledRows.{get_all, is_numbered, length_all, map_all, settled_if}
-use Rattle.blob_store.proofs.SweptEntries.{gone_told, left_at, IsLeft}
+use Rattle.blob_store.proofs.SweptEntries.{gone_told, left_at}
 
 -- ---- a piece that wasn't used is not used when items go
 
@@ -211,7 +211,8 @@ module _ (page : ℕ) (book : Book) (shares later : List (Option Share)) (rows :
       where
         by : (a : Bool) → is_pending entry.status ≡ a → Comes entry.status None row.sending
         by true pending = absurd (false_true (unbroken entry.status pending broken))
-        by false ended = subst (λ (sending : Sending). Comes entry.status None sending) (sym (comes_pending entry.status entry.own row.sending is.comes ended)) tt
+        by false ended =
+            subst (λ (sending : Sending). Comes entry.status None sending) (sym (comes_pending entry.status entry.own row.sending is.comes ended)) tt
 
     awaited_one : (number : ℕ) (row : Row) → number < length book.names → (was : Option Entry) → entry_at book.entries number ≡ was → (b : Bool)
         → entry_at now_book.entries number ≡ left b was → IsAwaited page order was row

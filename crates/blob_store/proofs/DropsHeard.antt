@@ -1,9 +1,10 @@
 -- What a store says of the drops owed: they are told, and behind them its parts stand.
-use Rattle.std.proofs.Common.{◌≡◌, ℕ, zero, suc, ◌+◌, ◌<◌, ◌≤◌, ◌==◌, Bool, true, false, cond, List, [], ◌∷◌, ◌++◌, Option, Some, None, length, map, refl, ap, subst, sym, ◌∙◌, arith}
+use Rattle.std.proofs.Common.{◌≡◌, ℕ, suc, ◌+◌, ◌<◌, ◌==◌, Bool, true, false, cond, List, [], ◌∷◌, ◌++◌, Option, Some, None, length, map, refl, ap, subst, sym}
+use Rattle.std.proofs.Common.{◌∙◌, arith}
 use Rattle.std.specs.Prelude.{fold, is_some, slice_get, slice_index, if◌then◌else◌, IfSome}
 use Rattle.std.specs.List.{list_any}
 use Rattle.std.specs.Option.{option_map, option_map_or}
-use Rattle.std.proofs.lemmas.Bool.{eq-eqb, eqb-true}
+use Rattle.std.proofs.lemmas.Bool.{eqb-true}
 use Rattle.std.proofs.lemmas.Option.{slice_get-get_or}
 use Rattle.answer_text.specs.declared.answer.Answer.{Answer}
 use Rattle.answer_text.specs.declared.answer.Answer.TheVariants as answers
@@ -13,7 +14,7 @@ use Rattle.page_disk.specs.declared.change.Change.{Change}
 use Rattle.blob_entries.specs.Book.{book_of, entry_at}
 use Rattle.quota_queue.specs.Queue.{without}
 use Rattle.store_laws.specs.LetGo.{left_by, let_go_by}
-use Rattle.blob_entries.specs.Leaving.{is_needed, is_rooted, left}
+use Rattle.blob_entries.specs.Leaving.{left}
 use Rattle.blob_entries.specs.Names.{number_of}
 use Rattle.blob_entries.specs.declared.entry.Entry.{Entry}
 use Rattle.blob_registry.specs.Sweeps.{dropped, swept}
@@ -21,7 +22,6 @@ use Rattle.blob_model.specs.Builds.{Build, builds}
 use Rattle.blob_model.specs.History.{History}
 use Rattle.blob_model.specs.Live.{is_live}
 use Rattle.blob_model.specs.Session.{Session, page_limit}
-use Rattle.blob_model.specs.Settle.{drops}
 use Rattle.blob_model.proofs.Lists.{false_true}
 use Rattle.registry_laws.specs.Laws.{Describes}
 use Rattle.store_laws.specs.DropLaws.{swept_parts, AreDropped}
@@ -144,7 +144,8 @@ module _ (old new : Parts) (names : List ℕ) (freed : List Item) (whole : Whole
       (length_all old.registry.names told_names old.rows ∙ whole.blobs.each_row ∙ tell.sound.sized
       ∙ sym (length_swept old.registry.names old.registry.entries 0))
 
-  kept_so : AreKept now_entries (rows_left (is_live (page_limit s) h) (builds (page_limit s) h) (rows_beside old.registry.entries old.rows)) old.shares new.shares
+  kept_so : AreKept now_entries (rows_left (is_live (page_limit s) h) (builds (page_limit s) h) (rows_beside old.registry.entries old.rows)) old.shares
+      new.shares
   kept_so =
       subst (λ (rows : List (Option RowSaid)). AreKept now_entries rows old.shares new.shares) rows_so
       (record {

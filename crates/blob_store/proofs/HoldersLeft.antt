@@ -1,5 +1,5 @@
 -- Who holds a blob holds it still when entries that nobody holds went.
-use Rattle.std.proofs.Common.{◌≡◌, ℕ, zero, suc, ◌+◌, ◌<◌, ◌≤◌, ◌==◌, nat_lt, Bool, true, false, cond, List, [], ◌∷◌, Option, Some, None, length, refl, ap, subst, sym, ◌∙◌, arith}
+use Rattle.std.proofs.Common.{◌≡◌, ℕ, zero, suc, ◌<◌, Bool, true, false, cond, List, [], Option, Some, None, refl, ap, subst, sym, ◌∙◌, arith}
 use Rattle.std.specs.Prelude.{option_and_then, unwrap_or, IfSome, IsSomeAnd}
 use Rattle.std.specs.BTreeMap.{is_at}
 use Rattle.std.specs.Option.{option_map, option_map_or}
@@ -8,7 +8,7 @@ use Rattle.std.proofs.lemmas.Bool.{eq-eqb, lt-ltb}
 use Rattle.std.proofs.lemmas.Map.Entries.{sum_by-remove_entry}
 use Rattle.renderer_table.specs.Table.{Table}
 use Rattle.url_store.specs.declared.url.Url.{Url}
-use Rattle.blob_entries.specs.Book.{Book, book_of, entry_at, entry_of}
+use Rattle.blob_entries.specs.Book.{Book, book_of, entry_at}
 use Rattle.blob_entries.specs.Leaving.{is_rooted, left, shed}
 use Rattle.blob_entries.specs.Names.{number_of}
 use Rattle.blob_entries.specs.Statuses.{is_broken}
@@ -18,7 +18,7 @@ use Rattle.blob_model.proofs.Lists.{false_true}
 use Rattle.blob_store.specs.declared.readers.OpenReader.{OpenReader}
 use Rattle.blob_store.specs.Holders.{Holders, IsOpen}
 use Rattle.blob_store.specs.Readers.{reader_at, readers_of, reads}
-use Rattle.blob_store.specs.Roots.{roots_at, roots_in}
+use Rattle.blob_store.specs.Roots.{roots_at}
 use Rattle.blob_store.proofs.SweptEntries.{left_at, IsLeft}
 
 abbrev roots_if : Option Entry → ℕ

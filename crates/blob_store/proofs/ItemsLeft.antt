@@ -1,9 +1,10 @@
 -- What the parts keep of the items that are left when items of pieces go.
-use Rattle.std.proofs.Common.{◌≡◌, ℕ, zero, suc, ◌+◌, ◌≤◌, ◌<◌, ◌==◌, ◌&&◌, ◌||◌, not, Bool, true, false, cond, List, [], ◌∷◌, set, refl, ap, subst, sym, ◌∙◌, Option, Some, None, arith, ◌^◌, ◌-◌}
+use Rattle.std.proofs.Common.{◌≡◌, ℕ, zero, suc, ◌≤◌, ◌==◌, ◌&&◌, ◌||◌, not, Bool, true, false, cond, List, [], ◌∷◌, set, refl, ap, subst, sym, ◌∙◌, Option}
+use Rattle.std.proofs.Common.{Some, None, arith}
 use Rattle.std.specs.Prelude.{filter, fold, nat_eq, slice_get, IfSome, IsSomeAnd}
 use Rattle.std.specs.Option.{option_map}
 use Rattle.std.specs.List.{AllByRecursion, list_any}
-use Rattle.std.proofs.lemmas.Bool.{and_parts, eq-eqb, eqb-true}
+use Rattle.std.proofs.lemmas.Bool.{eq-eqb, eqb-true}
 use Rattle.blob_words.specs.declared.number.PageNo.{PageNo}
 use Rattle.blob_words.specs.declared.number.PieceNo.{PieceNo}
 use Rattle.item_shares.specs.Shares.{item_at}
@@ -17,13 +18,13 @@ use Rattle.page_files.specs.declared.page.Page.{Page}
 use Rattle.page_files.specs.declared.page.Page.TheVariants.{Torn, Whole as WholePage, Asked}
 use Rattle.page_files.specs.Files.{Files, left_of, page_no, source_of, struck}
 use Rattle.page_files.specs.Items.{IsMemoryOf, IsPagedIn, IsPagedOf}
-use Rattle.page_files.specs.Pages.{page_at, pieces_at, pieces_of, released}
+use Rattle.page_files.specs.Pages.{page_at, pieces_at, released}
 use Rattle.page_files.specs.Pieces.{without}
 use Rattle.recent_items.specs.Recent.{without as unused}
 use Rattle.blob_model.proofs.Lists.{false_true}
 use Rattle.store_laws.specs.Items.{holds_piece, is_number, piece_at, piece_by, piece_of_item, AreOnePerPiece}
 use Rattle.store_laws.specs.LetGo.{left_by, let_go_by, AreFreed}
-use Rattle.store_laws.specs.PageFiles.{holds_paged, is_paged_in}
+use Rattle.store_laws.specs.PageFiles.{is_paged_in}
 use Rattle.store_laws.specs.Weights.{range_weight}
 use Rattle.store_laws.proofs.HeldCounts.{at_slot, slot_of}
 use Rattle.store_laws.proofs.Letting.{any_in, holds_any, is_of, left_in, number_of_piece, paged_held, paged_piece}
@@ -194,7 +195,8 @@ module _ (piece : ℕ) (test : Held → Bool) (own : (held : Held) → test held
   stays_without other [] apart e = e
   stays_without other (held ∷ list) apart e = go (test held) refl (not (nat_eq other.0 held.piece.0)) refl (stays_without other list apart)
     where
-      go : (a : Bool) → test held ≡ a → (b : Bool) → not (nat_eq other.0 held.piece.0) ≡ b → (list_any test list ≡ true → list_any test (without other list) ≡ true)
+      go : (a : Bool) → test held ≡ a → (b : Bool) → not (nat_eq other.0 held.piece.0) ≡ b
+          → (list_any test list ≡ true → list_any test (without other list) ≡ true)
           → list_any test (cond b (held ∷ without other list) (without other list)) ≡ true
       go true at true is rest = ap (λ (c : Bool). c || list_any test (without other list)) at
       go true at false is rest =
@@ -336,9 +338,9 @@ module _ (homes : List ℕ) (files : Files) (shares later : List (Option Share))
   listed_left slot (Paged piece page off len) at is = (
     is.0,
     stays_fold piece.0
-    (λ (held : Held). (held.piece.0 == piece.0) && (held.slot == slot) && (held.off == off) && (held.len == len))
-    (λ held e. eqb-true held.piece.0 piece.0 (first (held.piece.0 == piece.0) (held.slot == slot) (held.off == off) (held.len == len) e)) page.0 freed files
-    (no_freed piece.0 (at_slot piece.0 slot later (ap (is_number piece.0) (ap piece_by at) ∙ eq-eqb piece.0 piece.0 refl))) is.1,
+        (λ (held : Held). (held.piece.0 == piece.0) && (held.slot == slot) && (held.off == off) && (held.len == len))
+        (λ held e. eqb-true held.piece.0 piece.0 (first (held.piece.0 == piece.0) (held.slot == slot) (held.off == off) (held.len == len) e)) page.0 freed files
+        (no_freed piece.0 (at_slot piece.0 slot later (ap (is_number piece.0) (ap piece_by at) ∙ eq-eqb piece.0 piece.0 refl))) is.1,
   )
     where
       first : (a b c d : Bool) → (a && b && c && d) ≡ true → a ≡ true

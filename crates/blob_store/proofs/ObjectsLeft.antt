@@ -1,5 +1,5 @@
 -- The objects of ranges that go can be dropped, and those of the ranges that are left are there.
-use Rattle.std.proofs.Common.{◌≡◌, ℕ, ◌+◌, ◌≤◌, ◌==◌, Bool, true, false, cond, List, [], ◌∷◌, ◌++◌, Option, Some, None, refl, ap, subst, sym, ◌∙◌, arith}
+use Rattle.std.proofs.Common.{◌≡◌, ℕ, ◌+◌, ◌≤◌, ◌==◌, Bool, true, false, cond, List, [], ◌∷◌, ◌++◌, Option, Some, None, refl, ap, ◌∙◌, arith}
 use Rattle.std.specs.Prelude.{fold, is_some, option_and_then, sum_by, IfSome, IsSome}
 use Rattle.std.specs.List.{list_any}
 use Rattle.std.specs.Option.{option_map_or}
@@ -78,8 +78,7 @@ module _ (table : Table) (shares later : List (Option Share)) (freed pieces : Li
           let sum = all in let most = few k in absurd (omega (arith, gone, some, sum, most))
       by true at false is =
           let same : slot_at (fold released_by table freed) k ≡ slot_at table k =
-          slot_all freed table k ∙ ap (λ (b : Bool). left_slot b (slot_at table k)) is in
-          (
+          slot_all freed table k ∙ ap (λ (b : Bool). left_slot b (slot_at table k)) is in (
             ap (λ (found : Option Slot). option_map_or (λ (one : Slot). one.is_claimed) found false) same ∙ (has k at).0,
             ap (λ (found : Option Slot). is_some (option_and_then (λ (one : Slot). one.object) found)) same ∙ (has k at).1,
           )

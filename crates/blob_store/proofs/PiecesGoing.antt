@@ -1,6 +1,7 @@
 -- Items of pieces that go, one after the other.
-use Rattle.std.proofs.Common.{◌≡◌, ◌≢◌, ℕ, zero, suc, ◌+◌, ◌-◌, ◌<◌, ◌≤◌, ◌==◌, Bool, true, false, cond, List, [], ◌∷◌, ◌++◌, Option, Some, None, refl, ap, subst, sym, ◌∙◌, arith}
-use Rattle.std.specs.Prelude.{count_by, fold, sum_by, IfSome, IsSome, IsSomeAnd, is_some}
+use Rattle.std.proofs.Common.{◌≡◌, ◌≢◌, ℕ, ◌+◌, ◌-◌, ◌<◌, ◌≤◌, ◌==◌, Bool, true, false, cond, List, [], ◌∷◌, ◌++◌, Option, Some, None, refl, ap, subst, sym}
+use Rattle.std.proofs.Common.{◌∙◌, arith}
+use Rattle.std.specs.Prelude.{fold, sum_by, IfSome, IsSome, is_some}
 use Rattle.std.specs.Option.{option_map, option_map_or}
 use Rattle.std.proofs.lemmas.Bool.{eq-eqb, eqb-true, eqb-false}
 use Rattle.std.proofs.lemmas.List.Sums.{sum_by-append, sum_by-cons}
@@ -12,7 +13,7 @@ use Rattle.item_shares.specs.declared.shares.Share.{Share}
 use Rattle.blob_entries.specs.Counts.{count_at}
 use Rattle.blob_entries.proofs.Soundness.{same_or}
 use Rattle.store_laws.specs.LetGo.{left_by, let_go_by, AreFreed}
-use Rattle.store_laws.specs.Weights.{memory_weight, piece_weight, range_weight, reserved_weight}
+use Rattle.store_laws.specs.Weights.{range_weight}
 use Rattle.blob_store.specs.declared.parts.Parts.{Parts}
 use Rattle.blob_store.specs.Dropping.{PiecesGo}
 

@@ -1,15 +1,15 @@
 -- Who waits, without the blobs of some names, is who waits once their rows are settled.
-use Rattle.std.proofs.Common.{◌≡◌, ℕ, zero, suc, ◌+◌, ◌==◌, Bool, true, false, not, cond, List, [], ◌∷◌, ◌++◌, Option, Some, None, refl, ap, subst, sym, ◌∙◌, arith}
+use Rattle.std.proofs.Common.{◌≡◌, ℕ, zero, suc, ◌+◌, ◌==◌, Bool, true, false, not, cond, List, [], ◌∷◌, ◌++◌, Option, Some, None, refl, ap, subst, sym, ◌∙◌}
+use Rattle.std.proofs.Common.{arith}
 use Rattle.std.specs.Prelude.{fold, slice_get, sum, IfSome}
 use Rattle.std.specs.Option.{option_map, option_map_or}
 use Rattle.std.proofs.lemmas.Bool.{eq-eqb, eqb-true}
 use Rattle.blob_entries.specs.Names.{number_of}
 use Rattle.quota_queue.specs.Queue.{without}
-use Rattle.blob_model.proofs.Lists.{false_true}
 use Rattle.blob_store.specs.declared.row.Row.{Row}
 use Rattle.blob_store.specs.declared.row.Sending.{Sending}
 use Rattle.blob_store.specs.declared.row.Sending.TheVariants.{Settled, Waiting, Gathering, Writing}
-use Rattle.blob_store.specs.Dropping.{settled_at, settled_by, settled_row}
+use Rattle.blob_store.specs.Dropping.{settled_at, settled_by}
 use Rattle.blob_store.specs.Rows.{waiting, waits_by}
 use Rattle.blob_store.proofs.Settling.{settled_cons}
 

@@ -1,5 +1,5 @@
 -- A row that is settled, with what its bytes took given back.
-use Rattle.std.proofs.Common.{◌≡◌, ℕ, ◌+◌, ◌-◌, ◌<◌, ◌≤◌, ◌==◌, Bool, true, false, List, [], ◌∷◌, Option, Some, None, length, get_or, refl, ap, subst, sym, ◌∙◌, arith}
+use Rattle.std.proofs.Common.{◌≡◌, ℕ, ◌+◌, ◌-◌, ◌<◌, ◌≤◌, ◌==◌, Bool, true, false, List, [], Option, Some, None, get_or, refl, ap, subst, sym, ◌∙◌, arith}
 use Rattle.std.specs.Prelude.{count_by, slice_get, sum, IfSome, IsSomeAnd}
 use Rattle.std.specs.Option.{option_map}
 use Rattle.std.proofs.lemmas.Bool.{eq-eqb}
@@ -17,7 +17,7 @@ use Rattle.transport_plan.specs.Spans.{piece_count}
 use Rattle.blob_store.specs.declared.parts.Parts.{Parts}
 use Rattle.blob_store.specs.declared.row.Row.{Row}
 use Rattle.blob_store.specs.declared.row.Sending.{Sending}
-use Rattle.blob_store.specs.declared.row.Sending.TheVariants.{Settled, Waiting, Gathering, Writing}
+use Rattle.blob_store.specs.declared.row.Sending.TheVariants.{Gathering, Writing}
 use Rattle.blob_store.specs.Dropping.{settled_at, settled_row, AreOwn, CanSettle, ChargedBeside, PiecesGo, RowsGo}
 use Rattle.blob_store.specs.Rows.{gathered_bytes, gathered_pieces, pins, sending_slots}
 use Rattle.blob_store.proofs.PiecesGoing.{none_goes}
@@ -183,7 +183,8 @@ module _ (parts : Parts) (can : CanSettle parts) (number : ℕ) (sending : Sendi
         → RowsGo now_rows parts.quota.waiting parts new
     rows_go_written new charged goes rest agrees = record {
       settles = subst CanSettle (sym rest)
-          (settles_again new.shares (record parts.quota { used = new.quota.used }) new.pages new.recent new.held refl (subst (ChargedBeside [] 0 0) rest charged)
+          (settles_again new.shares (record parts.quota { used = new.quota.used }) new.pages new.recent new.held refl
+          (subst (ChargedBeside [] 0 0) rest charged)
           goes.kept);
       goes = record {
         freed = goes.freed;

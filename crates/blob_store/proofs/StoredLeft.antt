@@ -1,6 +1,6 @@
 -- Items, page files and rows agree again when entries went.
-use Rattle.std.proofs.Common.{◌≡◌, ℕ, ◌+◌, ◌-◌, ◌<◌, ◌≤◌, ◌==◌, ◌^◌, Bool, true, false, List, [], ◌∷◌, ◌++◌, Option, Some, None, length, map, refl, ap, subst, sym, ◌∙◌, arith}
-use Rattle.std.specs.Prelude.{count_by, fold, slice_get, sum, sum_by, IfSome, IsSomeAnd}
+use Rattle.std.proofs.Common.{◌≡◌, ℕ, ◌+◌, ◌<◌, ◌≤◌, Bool, true, false, List, [], ◌∷◌, Option, Some, None, length, refl, ap, subst, sym, ◌∙◌, arith}
+use Rattle.std.specs.Prelude.{fold, slice_get, sum, IfSome}
 use Rattle.std.specs.List.{list_any}
 use Rattle.std.specs.Option.{option_map}
 use Rattle.blob_words.specs.declared.limits.Limits.{Limits}
@@ -9,23 +9,19 @@ use Rattle.item_shares.specs.Weights.{weights}
 use Rattle.item_shares.specs.declared.item.Item.{Item}
 use Rattle.item_shares.specs.declared.item.Item.TheVariants.{Memory, Paged, Reserved, File, Range}
 use Rattle.item_shares.specs.declared.shares.Share.{Share}
-use Rattle.blob_entries.specs.Counts.{count_at}
 use Rattle.page_files.specs.Files.{Files}
 use Rattle.quota_queue.specs.Queue.{Queue}
-use Rattle.store_laws.specs.Items.{holds_piece}
 use Rattle.store_laws.specs.LetGo.{left_by, let_go_by, AreFreed}
 use Rattle.store_laws.specs.Weights.{piece_weight}
-use Rattle.transport_plan.specs.Spans.{piece_count}
 use Rattle.blob_store.specs.declared.row.Row.{Row}
-use Rattle.blob_store.specs.declared.row.Sending.{Sending}
-use Rattle.blob_store.specs.declared.row.Sending.TheVariants.{Settled, Waiting, Gathering, Writing}
-use Rattle.blob_store.specs.Dropping.{settled_by, settled_row}
-use Rattle.blob_store.specs.Rows.{all_waiting, gathered_pieces, pieces_gathered, pieces_to_come, pieces_waiting, pins, sending_slots}
-use Rattle.blob_store.specs.Stored.{AreUnheld, IsSendingOf, RowStored, Stored}
+use Rattle.blob_store.specs.declared.row.Sending.TheVariants.{Settled}
+use Rattle.blob_store.specs.Dropping.{settled_by}
+use Rattle.blob_store.specs.Rows.{gathered_pieces, pieces_gathered, pieces_waiting, pins}
+use Rattle.blob_store.specs.Stored.{RowStored, Stored}
 use Rattle.blob_store.proofs.ItemsLeft.{items_left, job_left, order_left, pages_left, ranges_left, unheld_still}
 use Rattle.blob_store.proofs.OnTheirWay.{sending_kept}
 use Rattle.blob_store.proofs.SettledRows.{get_all, is_numbered, map_all, settled_if, sum_all, turn_all}
-use Rattle.blob_store.proofs.Settling.{pins_settled, pins_of}
+use Rattle.blob_store.proofs.Settling.{pins_settled}
 
 waits_less : (page : ℕ) (row : Row) → pieces_waiting page row.lengths Settled ≤ pieces_waiting page row.lengths row.sending
 waits_less page row = omega arith

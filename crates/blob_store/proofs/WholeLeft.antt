@@ -1,11 +1,9 @@
 -- The parts agree again when entries that nobody holds went.
-use Rattle.std.proofs.Common.{◌≡◌, ℕ, ◌+◌, ◌-◌, ◌<◌, ◌≤◌, ◌==◌, List, [], ◌∷◌, ◌++◌, Option, Some, None, length, refl, ap, subst, sym, ◌∙◌, arith}
-use Rattle.std.specs.Prelude.{fold, slice_get, sum_by, IfSome, IsSomeAnd}
-use Rattle.item_shares.specs.Shares.{item_at, AreViewed, HoldsPiece}
+use Rattle.std.proofs.Common.{◌≡◌, ℕ, List, ◌++◌, Option, Some, None, length, refl, ap, subst, sym, ◌∙◌, arith}
+use Rattle.std.specs.Prelude.{fold, slice_get, IfSome, IsSomeAnd}
+use Rattle.item_shares.specs.Shares.{AreViewed, HoldsPiece}
 use Rattle.item_shares.specs.declared.item.Item.{Item}
-use Rattle.item_shares.specs.declared.shares.Share.{Share}
-use Rattle.blob_entries.specs.Book.{Book, book_of}
-use Rattle.blob_entries.specs.Counts.{count_at}
+use Rattle.blob_entries.specs.Book.{book_of}
 use Rattle.blob_registry.specs.Sweeps.{dropped, let_go, swept, Sweeping}
 use Rattle.page_files.specs.Files.{Files}
 use Rattle.quota_queue.specs.Queue.{without, Queue}

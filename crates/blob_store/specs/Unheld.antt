@@ -1,5 +1,5 @@
 -- What becomes of the parts when blobs that nobody holds go: list 1 of settling, and list 3. Own.
-use Rattle.std.specs.Prelude.{ℕ, ◌≡◌, ◌+◌, ◌<◌, ◌++◌, Bool, true, List, Option, fold, sum_by, IsSome}
+use Rattle.std.specs.Prelude.{ℕ, ◌≡◌, ◌<◌, ◌++◌, Bool, true, List, Option, fold, sum_by, IsSome}
 use Rattle.answer_text.specs.declared.answer.Answer.{Answer}
 use Rattle.data_handles.specs.Table.{Table, is_claimed_at, object_at}
 use Rattle.item_shares.specs.Shares.{item_at}

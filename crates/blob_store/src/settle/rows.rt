@@ -1,5 +1,6 @@
 //! The bytes of a blob that is dropped come no more: what they take is given back.
-ghost use Rattle.std.specs.Prelude.{ℕ, ◌≡◌, ◌+◌, ◌-◌, ◌<◌, ◌≤◌, ◌^◌, length, slice_get, sum, IsSomeAnd, [], List, count_by, ◌==◌};
+ghost use Rattle.std.specs.Prelude.{ℕ, ◌≡◌, ◌+◌, ◌-◌, ◌<◌, ◌≤◌, ◌^◌, length, slice_get, sum};
+ghost use Rattle.std.specs.Prelude.{IsSomeAnd, [], List, count_by, ◌==◌};
 ghost use Rattle.item_shares.specs.Shares.{item_at, HoldsPiece};
 ghost use Rattle.page_disk.specs.declared.change.Change.{Change};
 ghost use Rattle.page_files.specs.Files.{Agrees};
@@ -44,7 +45,8 @@ fn give_back(quota: &mut Quota, held: &mut u32, lengths: &[u64], page: u64)
 impl Parts {
     ghost use Rattle.std.specs.Prelude.{fold};
     ghost use Rattle.quota_queue.specs.Queue.{without};
-    ghost use Rattle.blob_store.specs.Dropping.{settled_by, CanSettle, ChargedBeside, PiecesGo, RowsGo};
+    ghost use Rattle.blob_store.specs.Dropping.{settled_by, CanSettle, ChargedBeside, PiecesGo};
+    ghost use Rattle.blob_store.specs.Dropping.{RowsGo};
 
     // Each of these slots has a pin fewer.
     fn unpin(&mut self, slots: &[usize])

@@ -1,5 +1,5 @@
 -- What goes with the entries leaves the parts whole.
-use Rattle.std.proofs.Common.{◌≡◌, ℕ, List, subst}
+use Rattle.std.proofs.Common.{ℕ, List, subst}
 use Rattle.std.specs.Prelude.{fold}
 use Rattle.quota_queue.specs.Queue.{without}
 use Rattle.blob_store.specs.Dropping.{settled_by, RowsGo}

@@ -1,5 +1,5 @@
 -- The row of a name that is known is there.
-use Rattle.std.proofs.Common.{◌≡◌, ℕ, ◌<◌, Some, length, ap, subst, sym, ◌∙◌}
+use Rattle.std.proofs.Common.{ℕ, ◌<◌, subst, sym, ◌∙◌}
 use Rattle.blob_entries.proofs.Numbers.{number_within}
 use Rattle.blob_store.proofs.parts.Parts.drop_row.Goals as goal
 

@@ -1,5 +1,4 @@
 -- One more row goes.
-use Rattle.std.proofs.Common.{◌≡◌}
 use Rattle.blob_store.proofs.RowsGoing.{next_goes}
 use Rattle.blob_store.proofs.parts.Parts.drop_rows.Goals as goal
 

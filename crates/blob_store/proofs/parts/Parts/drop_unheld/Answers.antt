@@ -1,5 +1,5 @@
 -- The objects of what goes can be dropped, and what is told are the drops owed.
-use Rattle.std.proofs.Common.{◌≡◌, ◌++◌, List, Option, map, ap, subst, sym, ◌∙◌}
+use Rattle.std.proofs.Common.{◌++◌, List, map, ap, subst, sym, ◌∙◌}
 use Rattle.std.specs.Prelude.{fold}
 use Rattle.std.proofs.lemmas.Result.{on_ok_weaker}
 use Rattle.answer_text.specs.declared.answer.Answer.TheVariants.{Dropped}

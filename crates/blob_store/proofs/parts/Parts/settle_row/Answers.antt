@@ -1,13 +1,12 @@
 -- What the row's bytes took is there to be given back, and then rows, counts and charges agree again.
-use Rattle.std.proofs.Common.{◌≡◌, ℕ, ◌+◌, ◌-◌, ◌<◌, ◌≤◌, ◌==◌, List, Some, get_or, refl, ap, subst, sym, ◌∙◌}
+use Rattle.std.proofs.Common.{◌≡◌, ℕ, ◌+◌, ◌-◌, ◌<◌, ◌≤◌, ◌==◌, List, Some, get_or, ap, subst, sym, ◌∙◌}
 use Rattle.std.specs.Prelude.{count_by, slice_get, sum}
-use Rattle.page_disk.specs.declared.change.Change.{Change}
 use Rattle.transport_plan.specs.Spans.{piece_count}
-use Rattle.blob_store.specs.declared.parts.Parts.{Parts}
 use Rattle.blob_store.specs.declared.row.Row.{Row}
 use Rattle.blob_store.specs.Dropping.{settled_at, ChargedBeside, PiecesGo, RowsGo}
 use Rattle.blob_store.specs.Rows.{gathered_bytes, gathered_pieces, sending_slots}
-use Rattle.blob_store.proofs.SettledRow.{beside_written, held_enough, lengths_there, rows_go_gathered, rows_go_still, rows_go_written, slots_written, used_enough, was_there}
+use Rattle.blob_store.proofs.SettledRow.{beside_written, held_enough, lengths_there, rows_go_gathered, rows_go_still, rows_go_written, slots_written}
+use Rattle.blob_store.proofs.SettledRow.{used_enough, was_there}
 use Rattle.blob_store.proofs.parts.Parts.settle_row.Goals as goal
 
 -- the lengths that are read are those of the row

@@ -1,4 +1,3 @@
-use Rattle.std.proofs.Common.{◌≡◌, length}
 use Rattle.blob_store.proofs.Unpinning.{one_unpinned}
 use Rattle.blob_store.proofs.parts.Parts.unpin.Goals as goal
 
