@@ -9,11 +9,13 @@ use Rattle.blob_entries.specs.Book.{book_of}
 use Rattle.blob_entries.specs.Counts.{count_at}
 use Rattle.blob_registry.specs.Sweeps.{dropped, swept}
 use Rattle.quota_queue.specs.Queue.{without}
+use Rattle.blob_model.specs.Builds.{builds}
 use Rattle.blob_model.specs.History.{History}
 use Rattle.blob_model.specs.Live.{is_live}
+use Rattle.blob_model.specs.Order.{Distinct}
 use Rattle.blob_model.specs.Session.{Session, page_limit}
 use Rattle.blob_model.specs.Settle.{drops}
-use Rattle.registry_laws.specs.Laws.{Describes}
+use Rattle.registry_laws.specs.Agree.{AgreesWith}
 use Rattle.store_laws.specs.Items.{holds_slot}
 use Rattle.store_laws.specs.LetGo.{left_by, let_go_by, AreFreed}
 use Rattle.store_laws.specs.Settling.{after_drops}
@@ -58,8 +60,8 @@ pub record AreUnheld (s : Session) (h : History) (before later : List Answer) (n
   pub stands : Between s (after_drops s h) (is_live (page_limit s) h) (parts_of now.parts) now.told now.table
   pub exact : AreExact s (after_drops s h) (is_live (page_limit s) h)
 
--- so for each history for which the parts stand, whatever lives standing, and that tells how the entries stand
+-- so for each history for which the parts stand, whatever lives standing, whose names differ, and with which the entries agree
 unfoldable pub Drops : List Answer → List Answer → Scene → Scene → Type 0
 Drops before later old new =
-    (s : Session) (h : History) (stands : ℕ → Bool) → Between s h stands (parts_of old.parts) old.told old.table → Describes s h old.parts.registry
-    → ((name : ℕ) → is_live (page_limit s) h name ≡ true → stands name ≡ true) → AreUnheld s h before later new
+    (s : Session) (h : History) (stands : ℕ → Bool) → Between s h stands (parts_of old.parts) old.told old.table → Distinct (builds (page_limit s) h)
+    → AgreesWith (page_limit s) h old.parts.registry → ((name : ℕ) → is_live (page_limit s) h name ≡ true → stands name ≡ true) → AreUnheld s h before later new

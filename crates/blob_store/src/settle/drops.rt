@@ -1,6 +1,7 @@
 //! Lists 1 and 3: what nobody holds goes.
 ghost use Rattle.std.specs.Prelude.{◌≡◌, ◌++◌, List, Option, map, IfOk, OnOk};
 ghost use Rattle.answer_text.specs.declared.answer.Answer.TheVariants.{Dropped};
+ghost use Rattle.blob_entries.specs.Sound.{AreSound};
 ghost use Rattle.blob_registry.specs.Sweeps.{Sweeping};
 ghost use Rattle.data_handles.specs.Boxes.{of_table};
 ghost use Rattle.item_shares.specs.Shares.{AreViewed};
@@ -66,9 +67,11 @@ impl Parts {
         ensures whole { OnOk result (IsWhole self.new) }
         ensures goes { IfOk result (λ swept. EntriesGo swept.dropped swept.freed
             self.old self.new) }
+        ensures sound { AreSound self.old.registry.names self.old.registry.entries }
         ensures agrees { (changes : List Change) → Agrees self.old.pages.pages changes
             → Agrees self.new.pages.pages changes }
     {
+        let _count = self.registry.registered(); // says that the entries are sound
         let Ok(swept) = self.sweep_entries() else {
             return Err(NoMemory);
         };

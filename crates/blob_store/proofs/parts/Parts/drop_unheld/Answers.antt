@@ -43,10 +43,11 @@ returns-clause-drops g c =
     let new = c.drop_entries.new.self in
     let goes = c.in-Ok.ensures.goes in
     on_ok_weaker c.tell_dropped.result
-    (λ said told s h stands between tell covers.
+    (λ said told s h stands between distinct agree covers.
     subst (λ (one : Table). AreUnheld s h c.args.answers.now c.tell_dropped.new.answers (scene new told one))
     (sym (c.release.ensures ∙ ap (fold released_by table) c.as_slice.ensures))
-    (drops_heard old new c.in-Ok.swept.dropped c.in-Ok.swept.freed c.requires.whole c.in-Ok.ensures.whole goes s h tell stands told table between covers
+    (drops_heard old new c.in-Ok.swept.dropped c.in-Ok.swept.freed c.requires.whole c.in-Ok.ensures.whole goes s h
+    (record { distinct = distinct; sound = c.drop_entries.ensures.sound; agree = agree }) stands told table between covers
     c.args.answers.now c.tell_dropped.new.answers
     (said ∙ ap (λ (list : _). c.args.answers.now ++ map (λ (name : _). Dropped name) list) c.as_slice-2.ensures)))
     c.tell_dropped.ensures
