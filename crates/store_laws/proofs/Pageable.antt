@@ -1,5 +1,5 @@
 -- Whether a piece may be paged is read off its item and the job in flight.
-use Rattle.std.proofs.Common.{◌≡◌, ℕ, ◌==◌, ◌&&◌, ◌||◌, not, Bool, true, false, cond, List, [], ◌∷◌, Option, Some, None, length, map, refl, ap, subst, sym, ◌∙◌}
+use Rattle.std.proofs.Common.{◌≡◌, ℕ, ◌==◌, ◌&&◌, ◌||◌, not, Bool, true, false, cond, List, [], ◌∷◌, Option, Some, None, length, refl, ap, subst, sym, ◌∙◌}
 use Rattle.std.specs.Prelude.{filter, find, IfSome, IsSomeAnd}
 use Rattle.std.specs.List.{list_any, AllByRecursion}
 use Rattle.std.specs.Option.{option_map, option_map_or}
@@ -10,7 +10,7 @@ use Rattle.item_shares.specs.declared.item.Item.TheVariants.{Memory, Paged, Rese
 use Rattle.item_shares.specs.declared.shares.Share.{Share}
 use Rattle.blob_entries.specs.Book.{Book}
 use Rattle.model_bridges.specs.Bridges.{held_numbers, job_as}
-use Rattle.page_files.specs.Files.{Files, left_of}
+use Rattle.page_files.specs.Files.{Files}
 use Rattle.page_files.specs.declared.held.Held.{Held}
 use Rattle.page_files.specs.declared.job.Job.{Job}
 use Rattle.quota_queue.specs.Queue.{Queue}
@@ -22,12 +22,12 @@ use Rattle.blob_model.specs.Pieces.{Piece, pieces}
 use Rattle.blob_model.specs.Session.{Session, page_limit}
 use Rattle.blob_model.specs.Standing.{is_done}
 use Rattle.blob_model.specs.Victims.{with_length}
-use Rattle.blob_model.proofs.Lists.{false_true}
+use Rattle.blob_model.proofs.Lists.{false_true, for_each}
 use Rattle.blob_model.proofs.builds.PieceNumbers.{all_by_number, pieces_numbered}
 use Rattle.store_laws.specs.Cells.{piece_in}
 use Rattle.store_laws.specs.Items.{holds_piece, piece_at, piece_by, piece_of_item, is_number, IsPlaced}
 use Rattle.store_laws.specs.PageFiles.{with_held}
-use Rattle.store_laws.specs.Pageable.{is_flying, pageable_by, pageable_if, PiecesMayBePaged}
+use Rattle.store_laws.specs.Pageable.{is_flying, pageable_if, PiecesMayBePaged}
 use Rattle.store_laws.specs.Rows.{Row, is_gathered}
 use Rattle.store_laws.specs.Stands.{ContentsStand}
 use Rattle.store_laws.specs.Uses.{facts_of, held_pieces, pageable_of}
@@ -66,11 +66,6 @@ module _ (q : Piece → Bool) (number : ℕ) where
       go false is at true so rest =
           ap {B = Option Piece} (λ (b : Bool). cond b (Some piece) (find (λ (each : Piece). each.number == number) (filter q list))) is ∙ rest at
       go false is at false so rest = rest at
-
-module _ {P Q : Piece → Type 0} (weaker : (piece : Piece) → P piece → Q piece) where
-  all_weaker : (list : List Piece) → AllByRecursion P list → AllByRecursion Q list
-  all_weaker [] all = tt
-  all_weaker (piece ∷ list) all = (weaker piece all.0, all_weaker list all.1)
 
 -- ---- the job in flight
 
@@ -141,9 +136,8 @@ module _ (s : Session) (h : History) (stands : ℕ → Bool) (book : Book) (shar
       as_one
       ∙ ap (option_map (λ (piece : Piece). (piece.number, piece.len)))
       (none_passes passes number all
-      (all_weaker {P = λ (piece : Piece). piece_in all piece.number ≡ Some piece} {Q = λ (piece : Piece). piece.number ≡ number → passes piece ≡ false}
-      (λ piece at same.
-      let is_one : piece ≡ one = cc (sym at ∙ ap (piece_in all) same ∙ found) in ap passes is_one ∙ is) all
+      (for_each (λ (piece : Piece). piece_in all piece.number ≡ Some piece) (λ (piece : Piece). piece.number ≡ number → passes piece ≡ false) all
+      (λ piece at same. let is_one : piece ≡ one = cc (sym at ∙ ap (piece_in all) same ∙ found) in ap passes is_one ∙ is)
       (all_by_number 0 all (pieces_numbered (page_limit s) 0 (builds (page_limit s) h)))))
 
   unheld_fails : holds_piece shares number ≡ false → passes one ≡ false

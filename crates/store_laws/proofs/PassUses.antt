@@ -82,7 +82,7 @@ holds_same shares later apart same number =
 
 -- ---- who ended before the pass ended so
 
-ended_kept : (s : Session) (g : History) (list : List Build) (name : ℕ) → is_unfinished g name ≡ false
+pub ended_kept : (s : Session) (g : History) (list : List Build) (name : ℕ) → is_unfinished g name ≡ false
     → ended (said_all g (endings_of s g list)) name ≡ ended g name
 ended_kept s g [] name over = refl
 ended_kept s g (build ∷ list) name over =
