@@ -70,6 +70,7 @@ pub mod PassUses
 pub mod PassContents
 pub mod LateLists
 pub mod Pageable
+pub mod Unpinned
 pub mod PiecesEntered
 pub mod Losing
 pub mod ToldPages

@@ -36,4 +36,5 @@ pub mod DecidingLaws
 pub mod Passing
 pub mod LateLists
 pub mod Pageable
+pub mod Unpinned
 pub mod JobLaws

@@ -1,5 +1,6 @@
 -- Whether a piece may be paged, read off items and the job in flight. Own.
-use Rattle.std.specs.Prelude.{ℕ, ◌≡◌, ◌==◌, ◌&&◌, Bool, true, false, not, List, length, Option, None, Some, option_and_then, filter_map, flat_map, if◌then◌else◌}
+use Rattle.std.specs.Prelude.{ℕ, ◌≡◌, ◌==◌, ◌&&◌, Bool, true, false, not}
+use Rattle.std.specs.Prelude.{List, length, Option, None, Some, option_and_then, filter_map, flat_map, if◌then◌else◌}
 use Rattle.std.specs.List.{list_any}
 use Rattle.item_shares.specs.Shares.{item_at}
 use Rattle.item_shares.specs.declared.item.Item.{Item}
