@@ -13,6 +13,8 @@ pub mod Begins
 pub mod Gone
 pub mod Openings
 pub mod Departing
+pub mod Dropping
+pub mod Unheld
 pub mod NewItems
 pub mod Putting
 pub mod Arriving

@@ -1,5 +1,6 @@
 //! What goes with the items that nothing views any more.
 ghost use Rattle.std.specs.Prelude.{◌≡◌, ◌+◌, ◌-◌, ◌≤◌, List, fold, sum_by};
+ghost use Rattle.std.specs.Option.{option_map_or};
 ghost use Rattle.data_handles.specs.Boxes.{of_table};
 ghost use Rattle.page_disk.specs.declared.change.Change.{Change};
 ghost use Rattle.page_files.specs.Files.{Agrees};
@@ -52,6 +53,31 @@ fn discharge_one(
         }
         Item::File { .. } => {}
         Item::Range { .. } => {}
+    }
+}
+
+/// An item goes, if there is one.
+pub fn discharge_if(
+    quota: &mut Quota,
+    pages: &mut PageFiles,
+    recent: &mut Recent,
+    held: &mut u32,
+    item: Option<Item>,
+)
+    requires used { option_map_or memory_weight item 0 ≤ quota.old.used }
+    requires reserved { option_map_or reserved_weight item 0 ≤ pages.old.reserved }
+    requires held { option_map_or piece_weight item 0 ≤ held.old }
+    ensures used { quota.new ≡ record quota.old {
+      used = quota.old.used - option_map_or memory_weight item 0;
+    } }
+    ensures pages { pages.new ≡ option_map_or (let_go_by pages.old) item pages.old }
+    ensures recent { recent.new ≡ option_map_or (left_by recent.old) item recent.old }
+    ensures held { held.new + option_map_or piece_weight item 0 ≡ held.old }
+    ensures agrees { (changes : List Change) → Agrees pages.old.pages changes
+        → Agrees pages.new.pages changes }
+{
+    if let Some(item) = &item {
+        discharge_one(quota, pages, recent, held, item);
     }
 }
 

@@ -1,3 +1,4 @@
 //! One file a list of settling: what is owed after a line, and its answers.
 
 mod drops;
+mod rows;

@@ -103,10 +103,10 @@ live_left s h book tell =
 -- ---- items that are kept
 
 module _ (all : List Piece) (shares later : List (Option Share)) where
-  abbrev IsSame : View → Type 0
+  abbrev pub IsSame : View → Type 0
   IsSame view = item_at later view.slot ≡ item_at shares view.slot
 
-  each_viewed : (views : List View) → ((slot : ℕ) → 0 < views_on slot views → item_at later slot ≡ item_at shares slot) → AllByRecursion IsSame views
+  pub each_viewed : (views : List View) → ((slot : ℕ) → 0 < views_on slot views → item_at later slot ≡ item_at shares slot) → AllByRecursion IsSame views
   each_viewed [] same = tt
   each_viewed (view ∷ views) same = (
     same view.slot (let on = on_cons view.slot view views in let one = ap {B = ℕ} (λ (b : Bool). cond b 1 0) (eq-eqb view.slot view.slot refl) in
@@ -223,6 +223,34 @@ module _ (list : List Build) (all : List Piece) (own : ℕ → List ℕ) (shares
   left_stands false held same is = tt
   left_stands true None same is = tt
   left_stands true (Some entry) same is = shed_stands entry (each_viewed all shares later (held_views (shed entry)) same) is
+
+pub slots_kept : (shares later : List (Option Share)) (slots : List ℕ)
+    → ((slot : ℕ) → 0 < count_by (λ (each : ℕ). each == slot) slots → item_at later slot ≡ item_at shares slot)
+    → map (piece_at later) slots ≡ map (piece_at shares) slots
+slots_kept shares later [] same = refl
+slots_kept shares later (slot ∷ slots) same =
+    λ i. piece_by (same slot (let own = ap {B = ℕ} (λ (b : Bool). cond b 1 0) (eq-eqb slot slot refl) in
+    let sum = sum_by-cons (λ (each : ℕ). cond (each == slot) 1 0) slot slots in omega (arith, sum, own)) i)
+    ∷ slots_kept shares later slots
+    (λ other some. same other (let sum = sum_by-cons (λ (each : ℕ). cond (each == other) 1 0) slot slots in omega (arith, sum, some))) i
+
+pub items_left : (all : List Piece) (facts : Facts) (shares later : List (Option Share))
+    → ((slot : ℕ) → IfSome (item_at later slot) (λ (item : Item). item_at shares slot ≡ Some item)) → ItemsStand all facts shares
+    → ItemsStand all facts later
+items_left all facts shares later still items = record {
+  each = λ slot. placed slot (item_at later slot) (still slot);
+  apart = λ one other number at at_other. items.apart one other number (back one number (item_at later one) (still one) at)
+      (back other number (item_at later other) (still other) at_other);
+}
+  where
+    placed : (slot : ℕ) (o : Option Item) → IfSome o (λ (item : Item). item_at shares slot ≡ Some item) → IfSome o (IsPlaced all facts)
+    placed slot None is = tt
+    placed slot (Some item) is = subst (λ (o : Option Item). IfSome o (IsPlaced all facts)) is (items.each slot)
+
+    back : (slot number : ℕ) (o : Option Item) → IfSome o (λ (item : Item). item_at shares slot ≡ Some item) → piece_by o ≡ Some number
+        → piece_at shares slot ≡ Some number
+    back slot number None is at = absurd (cc at)
+    back slot number (Some item) is at = ap piece_by is ∙ at
 
 -- ---- behind the drops
 
@@ -365,16 +393,6 @@ module _ (s : Session) (h : History) (stands : ℕ → Bool) (book : Book) (tell
       by true at =
           first ∙ ap (λ (b : Bool). cond b (Some (row_of s h build)) None) (covers build.name at) ∙ ap Some (sym (row_still build at))
 
-  slots_kept : (shares later : List (Option Share)) (slots : List ℕ)
-      → ((slot : ℕ) → 0 < count_by (λ (each : ℕ). each == slot) slots → item_at later slot ≡ item_at shares slot)
-      → map (piece_at later) slots ≡ map (piece_at shares) slots
-  slots_kept shares later [] same = refl
-  slots_kept shares later (slot ∷ slots) same =
-      λ i. piece_by (same slot (let own = ap {B = ℕ} (λ (b : Bool). cond b 1 0) (eq-eqb slot slot refl) in
-      let sum = sum_by-cons (λ (each : ℕ). cond (each == slot) 1 0) slot slots in omega (arith, sum, own)) i)
-      ∷ slots_kept shares later slots
-      (λ other some. same other (let sum = sum_by-cons (λ (each : ℕ). cond (each == other) 1 0) slot slots in omega (arith, sum, some))) i
-
   written_left : (own : ℕ → List ℕ) (shares later : List (Option Share)) (list : List Build) (rows : List (Option Row))
       → ((slot : ℕ) → 0 < pins slot (rows_left alive list rows) → item_at later slot ≡ item_at shares slot)
       → RowsBeside (λ (build : Build) (row : Row). AreWritten shares (own build.name) row.coming) list rows
@@ -427,26 +445,6 @@ module _ (s : Session) (h : History) (stands : ℕ → Bool) (book : Book) (tell
           (cond b (Some row) None ∷ rows_left alive list rows)
       some false same rest = rest same
       some true same rest = (writes row.coming same is.0, rest (more (coming_slots row.coming) same))
-
-  -- items
-
-  items_left : (all : List Piece) (facts : Facts) (shares later : List (Option Share))
-      → ((slot : ℕ) → IfSome (item_at later slot) (λ (item : Item). item_at shares slot ≡ Some item)) → ItemsStand all facts shares
-      → ItemsStand all facts later
-  items_left all facts shares later still items = record {
-    each = λ slot. placed slot (item_at later slot) (still slot);
-    apart = λ one other number at at_other. items.apart one other number (back one number (item_at later one) (still one) at)
-        (back other number (item_at later other) (still other) at_other);
-  }
-    where
-      placed : (slot : ℕ) (o : Option Item) → IfSome o (λ (item : Item). item_at shares slot ≡ Some item) → IfSome o (IsPlaced all facts)
-      placed slot None is = tt
-      placed slot (Some item) is = subst (λ (o : Option Item). IfSome o (IsPlaced all facts)) is (items.each slot)
-
-      back : (slot number : ℕ) (o : Option Item) → IfSome o (λ (item : Item). item_at shares slot ≡ Some item) → piece_by o ≡ Some number
-          → piece_at shares slot ≡ Some number
-      back slot number None is at = absurd (cc at)
-      back slot number (Some item) is at = ap piece_by is ∙ at
 
   -- all of them
 

@@ -407,14 +407,14 @@ number_of_piece number item e = go (piece_of_item item) e
     go None e = absurd (false_true e)
     go (Some one) e = ap Some (eqb-true one number e)
 
-paged_piece : (page number : ℕ) (item : Item) → is_paged_in page number item ≡ true → piece_of_item item ≡ Some number
+pub paged_piece : (page number : ℕ) (item : Item) → is_paged_in page number item ≡ true → piece_of_item item ≡ Some number
 paged_piece page number (Paged piece one off len) e = ap Some (eqb-true piece.0 number (and_parts (piece.0 == number) (one.0 == page) e).0)
 paged_piece page number (Memory piece bytes) e = absurd (false_true e)
 paged_piece page number (Reserved piece len) e = absurd (false_true e)
 paged_piece page number (File name stamp off len) e = absurd (false_true e)
 paged_piece page number (Range slot off len) e = absurd (false_true e)
 
-paged_held : (page number : ℕ) (shares : List (Option Share)) → holds_paged shares page number ≡ true → holds_piece shares number ≡ true
+pub paged_held : (page number : ℕ) (shares : List (Option Share)) → holds_paged shares page number ≡ true → holds_piece shares number ≡ true
 paged_held page number [] e = absurd (false_true e)
 paged_held page number (None ∷ shares) e = paged_held page number shares e
 paged_held page number (Some share ∷ shares) e = go (is_paged_in page number share.item) refl e (paged_held page number shares)

@@ -69,6 +69,9 @@ pub mod PassOrder
 pub mod PassUses
 pub mod PassContents
 pub mod LateLists
+pub mod Pageable
+pub mod Unpinned
+pub mod PiecesEntered
 pub mod Losing
 pub mod ToldPages
 pub mod Staying

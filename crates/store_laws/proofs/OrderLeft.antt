@@ -50,7 +50,7 @@ module _ (freed : List Item) where
       (λ (entry : ℕ × ℕ). not ((number == entry.0) || list_any (is_of entry.0) freed)) order
       (λ entry. not_either (number == entry.0) (list_any (is_of entry.0) freed))
 
-order_fold : (freed : List Item) (order : List (ℕ × ℕ)) → fold left_by order freed ≡ filter (stays_in freed) order
+pub order_fold : (freed : List Item) (order : List (ℕ × ℕ)) → fold left_by order freed ≡ filter (stays_in freed) order
 order_fold [] order = all_pass order
 order_fold (Memory piece bytes ∷ freed) order = order_fold freed (without piece.0 order) ∙ one_out freed piece.0 order
 order_fold (Paged piece page off len ∷ freed) order = order_fold freed (without piece.0 order) ∙ one_out freed piece.0 order
@@ -151,7 +151,7 @@ swapped h m false q h' same = none (h' && m) ∙ sym (ap (λ (b : Bool). b && q)
     none true = refl
     none false = refl
 
-passing_left : (H H' M T q : Piece → Bool) (list : List Piece) → ((piece : Piece) → T piece ≡ true → H' piece ≡ (H piece && q piece))
+pub passing_left : (H H' M T q : Piece → Bool) (list : List Piece) → ((piece : Piece) → T piece ≡ true → H' piece ≡ (H piece && q piece))
     → filter T (filter M (filter H' list)) ≡ filter q (filter T (filter M (filter H list)))
 passing_left H H' M T q list same =
     ap (filter T) (filter_twice H' M list) ∙ filter_twice (λ (piece : Piece). H' piece && M piece) T list

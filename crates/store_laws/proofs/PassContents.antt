@@ -33,7 +33,7 @@ use Rattle.store_laws.proofs.PassStand.{entries_pass}
 use Rattle.store_laws.proofs.PassUses.{none_freed, order_now}
 
 -- the endings of a pass are those that are owed
-endings_are : (s : Session) (h : History) (book now : Book) (list : List EndedBlob) → Describes s h book → AgreesInMarks s h book → Finishes book now list
+pub endings_are : (s : Session) (h : History) (book now : Book) (list : List EndedBlob) → Describes s h book → AgreesInMarks s h book → Finishes book now list
     → map ending_answer list ≡ endings s h
 endings_are s h book now list tell in_marks finishes =
     let blobs = builds (page_limit s) h in

@@ -82,7 +82,7 @@ holds_same shares later apart same number =
 
 -- ---- who ended before the pass ended so
 
-ended_kept : (s : Session) (g : History) (list : List Build) (name : ℕ) → is_unfinished g name ≡ false
+pub ended_kept : (s : Session) (g : History) (list : List Build) (name : ℕ) → is_unfinished g name ≡ false
     → ended (said_all g (endings_of s g list)) name ≡ ended g name
 ended_kept s g [] name over = refl
 ended_kept s g (build ∷ list) name over =
@@ -244,7 +244,7 @@ two_all : (P Q R : Piece → Type 0) → ((piece : Piece) → P piece → Q piec
 two_all P Q R f [] p q = tt
 two_all P Q R f (piece ∷ list) p q = (f piece p.0 q.0, two_all P Q R f list p.1 q.1)
 
-three : (H M T : Piece → Bool) (list : List Piece) → filter T (filter M (filter H list)) ≡ filter (λ (piece : Piece). (H piece && M piece) && T piece) list
+pub three : (H M T : Piece → Bool) (list : List Piece) → filter T (filter M (filter H list)) ≡ filter (λ (piece : Piece). (H piece && M piece) && T piece) list
 three H M T list = ap (filter T) (filter_twice H M list) ∙ filter_twice (λ (piece : Piece). H piece && M piece) T list
 
 -- ---- behind the pass

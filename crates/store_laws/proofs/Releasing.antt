@@ -140,7 +140,7 @@ good_items table (held ∷ shares) there =
     by (Some share) is = one share.item is
 
 -- what goes from such items can be released
-freed_releasable : (table : Table) (shares later : List (Option Share)) (freed : List Item)
+pub freed_releasable : (table : Table) (shares later : List (Option Share)) (freed : List Item)
     → ((weight : Item → ℕ) → sum_by weight freed + weights weight later ≡ weights weight shares) → ((k : ℕ) → weights (range_weight k) shares ≤ 1)
     → ((slot : ℕ) → IfSome (item_at shares slot) (CanRelease table)) → AreReleasable table freed
 freed_releasable table shares later freed weighs apart there =
@@ -163,7 +163,7 @@ slot_here table k = by (slot_at table k) refl
     by (Some slot) at = set_here table.slots k (emptied slot) (ap (λ (found : Option Slot). is_some found) at)
 
 -- a slot with what is left of it, where items of these numbers went
-abbrev left_slot : Bool → Option Slot → Option Slot
+abbrev pub left_slot : Bool → Option Slot → Option Slot
 left_slot went found = cond went (option_map emptied found) found
 
 slot_by : (table : Table) (k : ℕ) (item : Item) → slot_at (released_by table item) k ≡ left_slot (is_range_of k item) (slot_at table k)
@@ -184,7 +184,7 @@ left_twice true true (Some slot) = refl
 left_twice true false found = refl
 left_twice false b found = refl
 
-slot_all : (items : List Item) (table : Table) (k : ℕ)
+pub slot_all : (items : List Item) (table : Table) (k : ℕ)
     → slot_at (fold released_by table items) k ≡ left_slot (list_any (is_range_of k) items) (slot_at table k)
 slot_all [] table k = refl
 slot_all (item ∷ items) table k =
@@ -198,7 +198,7 @@ seen_parts one slot e =
     let same : ◌≡◌ {A = Bool × Option (ℕ × Option (List ℕ))} (one.is_claimed, option_map seen_as one.object) (true, Some (slot.size, slot.bytes)) = cc e in
     (ap (λ (pair : Bool × Option (ℕ × Option (List ℕ))). pair.0) same, ap (λ (pair : Bool × Option (ℕ × Option (List ℕ))). pair.1) same)
 
-held_range : (shares : List (Option Share)) (slot k off len : ℕ) → item_at shares slot ≡ Some (Range k off len) → holds_slot shares k ≡ true
+pub held_range : (shares : List (Option Share)) (slot k off len : ℕ) → item_at shares slot ≡ Some (Range k off len) → holds_slot shares k ≡ true
 held_range [] slot k off len e = absurd (cc e)
 held_range (None ∷ shares) zero k off len e = absurd (cc e)
 held_range (None ∷ shares) (suc slot) k off len e = held_range shares slot k off len e

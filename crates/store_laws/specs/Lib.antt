@@ -35,4 +35,6 @@ pub mod Deciding
 pub mod DecidingLaws
 pub mod Passing
 pub mod LateLists
+pub mod Pageable
+pub mod Unpinned
 pub mod JobLaws

@@ -1,0 +1,19 @@
+//! Which pieces may be paged, as the parts say, and what is left where pieces on their way go.
+ghost use Rattle.store_laws.specs.Pageable.{PiecesAreEntered, PiecesMayBePaged};
+ghost use Rattle.store_laws.specs.Unpinned.{UnpinnedStands};
+
+/// A piece of a blob that is done may be paged where its item is in memory and no job has it.
+pub fn pieces_may_be_paged()
+    ensures { PiecesMayBePaged }
+{}
+
+/// Behind a pass the pieces that are entered are those of the blobs that got done which may be
+/// paged, as the items in their homes say.
+pub fn pieces_are_entered()
+    ensures { PiecesAreEntered }
+{}
+
+/// The contents stand where items go that no entry views and no piece on its way is in.
+pub fn unpinned_stands()
+    ensures { UnpinnedStands }
+{}
