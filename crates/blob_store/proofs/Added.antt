@@ -56,7 +56,7 @@ module _ (renderer : RendererId) (name : ℕ) (plan : Plan) (line : List Part) (
     can_register sized =
         let same : old.registry ≡ between.registry = sym (ap (λ (parts : Parts). parts.registry) lays.rest) in
         subst (λ (book : Book). CanRegister book (arrival_of plan line old laid).size (arrival_of plan line old laid).recipe
-            (arrival_of plan line old laid).status) same
+        (arrival_of plan line old laid).status) same
         (inr (
           pending plan,
           sym (recipe_long between.shares old.limits.page old.limits.some_page (first_piece old) laid.ranges line lays.ranges),

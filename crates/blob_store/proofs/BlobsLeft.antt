@@ -35,7 +35,7 @@ use Rattle.store_laws.specs.PartLaws.{own_steps, piece_lengths}
 use Rattle.blob_store.specs.declared.row.Row.{Row}
 use Rattle.blob_store.specs.declared.row.Sending.{Sending}
 use Rattle.blob_store.specs.declared.row.Sending.TheVariants.{Settled, Waiting, Gathering, Writing}
-use Rattle.blob_store.specs.Blobs.{AreUnused, AreWeighed, Awaits, Blobs, Charged, Comes, IsAwaited, IsThere, Views}
+use Rattle.blob_store.specs.Blobs.{AreKnown, AreUnused, AreWeighed, Awaits, Blobs, Charged, Comes, IsAwaited, IsThere, Views}
 use Rattle.blob_store.specs.Dropping.{settled_by}
 use Rattle.blob_store.specs.Stored.{row_weights}
 use Rattle.blob_store.proofs.QueueLeft.{queue_rows}
@@ -282,6 +282,22 @@ module _ (page : ℕ) (book : Book) (shares later : List (Option Share)) (rows :
         subst (λ (now : Option Entry). IfSome now (λ (entry : Entry). length (held_views entry) + cut_weight book.names (row_weights rows) entry.recipe
         ≤ slice_index (row_weights rows) number)) (sym one.is) (weighed_one number (entry_at book.entries number) one.lives (blobs.weighed number)))
 
+    known_one : (was : Option Entry) (b : Bool) → IfSome was (AreKnown book.names) → IfSome (left b was) (AreKnown book.names)
+    known_one None true is = tt
+    known_one None false is = tt
+    known_one (Some entry) false is = tt
+    known_one (Some entry) true is = go (is_broken entry.status)
+      where
+        go : (b : Bool) → AreKnown book.names (cond b (record entry { recipe = []; own = None; views = [] }) entry)
+        go true = tt
+        go false = is
+
+    known_left : (number : ℕ) → IfSome (entry_at now_book.entries number) (AreKnown book.names)
+    known_left number =
+        let one = left_at book.names book.entries 0 number in
+        subst (λ (now : Option Entry). IfSome now (AreKnown book.names)) (sym one.is)
+        (known_one (entry_at book.entries number) one.lives (blobs.known number))
+
     pub blobs_left : queue.waiting ≡ fold (λ (list : List (ℕ × ℕ)) (name : ℕ). unqueued name list) quota.waiting told
         → Blobs page now_book later now_rows queue now_files now_order now_held
     blobs_left waits = record {
@@ -292,5 +308,6 @@ module _ (page : ℕ) (book : Book) (shares later : List (Option Share)) (rows :
       awaited = awaited_left;
       waits = waits ∙ ap (λ (start : List (ℕ × ℕ)). fold (λ (list : List (ℕ × ℕ)) (name : ℕ). unqueued name list) start told) blobs.waits
           ∙ queue_rows book.names blobs.names told rows;
+      known = known_left;
       weighed = weighed_left;
     }

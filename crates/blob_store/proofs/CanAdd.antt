@@ -141,7 +141,7 @@ module _ (parts : Parts) (whole : Whole parts) (table : Table) (renderer name : 
       let lost = or_parts (not (holds (parts_of parts) renderer b)) (is_broken_under parts.registry b) kept in
       let held = not_false (holds (parts_of parts) renderer b) lost.0 in
       let passed = passes (holds (parts_of parts) renderer b) (is_passed parts.registry b (off + len)) held
-          (or_parts (b == name) (holds (parts_of parts) renderer b && is_passed parts.registry b (off + len)) valid).1 in
+      (or_parts (b == name) (holds (parts_of parts) renderer b && is_passed parts.registry b (off + len)) valid).1 in
       by (entry_of parts.registry b) (held_there b held) lost.1 passed
     where
       not_false : (b : Bool) → not b ≡ false → b ≡ true
@@ -172,12 +172,12 @@ module _ (parts : Parts) (whole : Whole parts) (table : Table) (renderer name : 
   are_there (FileRange file off len stamp ∷ line) valid kept ends = (tt, are_there line valid kept ends.1)
   are_there (BlobRange b off len ∷ line) valid kept ends =
       let one = or_parts (is_invalid_in (parts_of parts) table renderer name (BlobRange b off len))
-          (list_any (is_invalid_in (parts_of parts) table renderer name) line) valid in
+      (list_any (is_invalid_in (parts_of parts) table renderer name) line) valid in
       let two = or_parts (is_lost_in (parts_of parts) renderer (BlobRange b off len)) (list_any (is_lost_in (parts_of parts) renderer) line) kept in
       (source_there b off len one.0 two.0, are_there line one.1 two.1 ends.1)
   are_there (HandleRange k off len ∷ line) valid kept ends =
       let one = or_parts (is_invalid_in (parts_of parts) table renderer name (HandleRange k off len))
-          (list_any (is_invalid_in (parts_of parts) table renderer name) line) valid in
+      (list_any (is_invalid_in (parts_of parts) table renderer name) line) valid in
       (ends.0, are_there line one.1 kept ends.1)
 
 -- ---- the plan

@@ -41,8 +41,9 @@ module _ (limits : Limits) (homes : List ℕ) (shares later : List (Option Share
 
   row_left : (number : ℕ) (row : Row) (b : Bool) → slice_get now_rows number ≡ Some (settled_if b row) → RowStored limits shares row
       → RowStored limits later (settled_if b row)
-  row_left number row true at is = record { unheld = λ piece from to. absurd (omega (arith, from, to)); sending = tt }
+  row_left number row true at is = record { own = omega arith; unheld = λ piece from to. absurd (omega (arith, from, to)); sending = tt }
   row_left number row false at is = record {
+    own = is.own;
     unheld = λ piece from to. unheld_still homes files shares later freed stored.items freed_so piece (is.unheld piece from to);
     sending = sending_kept shares later limits row row.sending is.sending
         (λ slot some. kept slot (let sum = pins_settled slot now_rows number row at in omega (arith, sum, some)));

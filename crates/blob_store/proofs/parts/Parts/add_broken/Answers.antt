@@ -17,6 +17,6 @@ unfolding IsWhole
 returns-clause-whole c =
     whole_broken c.args.renderer c.args.name c.args.kind.now c.args.why c.args.parts.now c.args.self.now c.enter.new.self c.requires.whole c.requires.can
     (subst (λ (arrival : Arrival).
-        Enters c.args.renderer c.args.name (arrived c.args.renderer c.args.kind.now arrival) arrival.row c.args.self.now c.enter.new.self)
+    Enters c.args.renderer c.args.name (arrived c.args.renderer c.args.kind.now arrival) arrival.row c.args.self.now c.enter.new.self)
     c.in_ok-arrival.ensures c.in_ok-enter.ensures)
     (sym c.registered-count.ensures.names ∙ c.registered-count.ensures.entries)
