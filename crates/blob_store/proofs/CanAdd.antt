@@ -37,14 +37,16 @@ use Rattle.transport_plan.specs.Plan.{file_plan, fits_inline, has_file_room, own
 use Rattle.transport_plan.specs.Spans.{piece_count}
 use Rattle.transport_plan.specs.declared.input.PlanInput.{PlanInput}
 use Rattle.blob_model.proofs.builds.Cells.{none_applies}
-use Rattle.blob_model.proofs.settled.Endings.{none_that}
+use Rattle.blob_model.proofs.settled.Endings.{none_that, some_that}
 use Rattle.store_laws.specs.Deciding.{holds, input_in, is_broken_under, is_invalid_in, is_lost_in, is_passed, is_unrecorded_in, line_status_in, line_weight_in, many_in, plan_in, slot_tests, slot_tests_in}
 use Rattle.store_laws.specs.Items.{holds_slot, is_range_of}
 use Rattle.store_laws.specs.Weights.{range_weight}
 use Rattle.blob_store.specs.Adding.{CanAdd, EndsWithin, IsThere}
+use Rattle.blob_store.specs.Admitting.{MayCome}
 use Rattle.blob_store.specs.Laying.{HasRoom}
 use Rattle.blob_store.specs.NewItems.{range_items}
 use Rattle.blob_store.specs.Seen.{parts_of}
+use Rattle.blob_store.specs.Unheld.{HaveObjects}
 use Rattle.blob_store.specs.Whole.{Whole}
 use Rattle.blob_store.specs.declared.parts.Parts.{Parts}
 use Rattle.blob_store.proofs.Rooting.{rooted}
@@ -286,3 +288,47 @@ module _ (parts : Parts) (whole : Whole parts) (table : Table) (known : (k : ℕ
         pieces = pieces;
         light = ltb-false MOST_WEIGHT (parts.weight + line_weight_in (parts_of parts) line) many.1.1.0;
       }
+
+-- ---- a blob that may come
+
+-- it breaks with a status that breaks
+pub breaks_so : (parts : Parts) (table : Table) (renderer name : ℕ) (line : List Part) (why : Status)
+    → line_status_in (parts_of parts) table renderer name line ≡ Some why → is_broken why ≡ true
+breaks_so parts table renderer name line why is =
+    some_that (λ (status : Status). is_broken status ≡ true)
+    (
+      (list_any (is_invalid_in (parts_of parts) table renderer name) line || nat_lt (2 ^ 62) (parts_length line), statuses.InvalidArguments)
+      ∷ (list_any (is_lost_in (parts_of parts) renderer) line, statuses.ReferencedBlobBroken)
+      ∷ (list_any (is_unrecorded_in (parts_of parts)) line, statuses.ReferencedFileUnavailable)
+      ∷ (is_out_of_memory (plan_in (parts_of parts) line), statuses.OutOfMemory)
+      ∷ []
+    )
+    why (refl, refl, refl, refl, tt) is
+
+-- one that doesn't break has few bytes
+pub few_bytes : (parts : Parts) (table : Table) (renderer name : ℕ) (line : List Part) → line_status_in (parts_of parts) table renderer name line ≡ None
+    → parts_length line ≤ 2 ^ 62
+few_bytes parts table renderer name line stands =
+    let tests = none_applies
+        (
+          (list_any (is_invalid_in (parts_of parts) table renderer name) line || nat_lt (2 ^ 62) (parts_length line), statuses.InvalidArguments)
+          ∷ (list_any (is_lost_in (parts_of parts) renderer) line, statuses.ReferencedBlobBroken)
+          ∷ (list_any (is_unrecorded_in (parts_of parts)) line, statuses.ReferencedFileUnavailable)
+          ∷ (is_out_of_memory (plan_in (parts_of parts) line), statuses.OutOfMemory)
+          ∷ []
+        )
+        stands in
+    ltb-false (2 ^ 62) (parts_length line)
+    (or_parts (list_any (is_invalid_in (parts_of parts) table renderer name) line) (nat_lt (2 ^ 62) (parts_length line)) tests.0).1
+
+pub may_add : (parts : Parts) → Whole parts → (table : Table) → HaveObjects parts.shares table → (renderer : RendererId) (name : ℕ) (line : List Part)
+    → AllByRecursion EndsWithin line → line_status_in (parts_of parts) table renderer.0 name line ≡ None → (plan : Plan) → plan ≡ plan_in (parts_of parts) line
+    → FitsPlan (input_in (parts_of parts) line) plan → parts.quota.used ≤ parts.quota.limit → MayCome renderer name line parts table
+    → CanAdd renderer name plan line parts
+may_add parts whole table objects renderer name line ends stands plan is fits used may =
+    can_add parts whole table (λ k holds. (objects k holds).0) renderer name line ends stands plan is fits used (
+      may.alive,
+      may.fresh,
+      may.slots,
+      subst (λ (b : Bool). first_that (many_in (parts_of parts) b line) ≡ None) (ap (λ (status : Option Status). is_none status) stands) may.little,
+    )

@@ -2,6 +2,7 @@
 //! entry and a row.
 
 mod adding;
+mod admitting;
 mod claiming;
 pub mod entering;
 mod homes;

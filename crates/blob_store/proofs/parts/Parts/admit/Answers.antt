@@ -1,0 +1,49 @@
+-- A blob that may come can be added, or breaks.
+use Rattle.std.proofs.Common.{◌≡◌, ◌<◌, Option, Some, None, true, sym, ap, subst, ◌∙◌}
+use Rattle.std.specs.Prelude.{fold, is_none, is_some}
+use Rattle.blob_words.specs.declared.plan.Plan.{Plan}
+use Rattle.blob_words.specs.declared.status.Status.{Status}
+use Rattle.answer_text.specs.declared.answer.Answer.TheVariants as answers
+use Rattle.data_handles.specs.Boxes.{of_table}
+use Rattle.data_handles.specs.Table.{Table}
+use Rattle.data_handles.specs.contracts.boxed.BoxedDataHandle.TheImpl.{seen-value}
+use Rattle.store_laws.specs.Deciding.{line_status_in, plan_in}
+use Rattle.blob_store.specs.Adding.{CanAdd, IsAdded}
+use Rattle.blob_store.specs.Admitting.{ComesBy}
+use Rattle.blob_store.specs.Claiming.{claimed_by}
+use Rattle.blob_store.specs.Seen.{parts_of}
+use Rattle.blob_store.specs.Whole.{IsWhole}
+use Rattle.blob_store.proofs.CanAdd.{breaks_so, few_bytes, may_add}
+use Rattle.blob_store.proofs.parts.Parts.admit.Goals as goal
+
+pub add_broken-requires-clause-can : goal.add_broken-requires-clause-can
+add_broken-requires-clause-can g c =
+    let table : Table = of_table (seen-value (g.dyn-1.0, g.dyn-1.1)).it c.args.handles.now in
+    record {
+      alive = c.requires.may.alive;
+      fresh = c.requires.may.fresh;
+      broken = breaks_so c.args.self.now table c.args.renderer.0 c.args.name c.args.parts.now c.in-Some.why
+          (sym c.in_ok-why.ensures.value ∙ c.in-Some.is);
+    }
+
+pub claim_all-requires : goal.claim_all-requires
+claim_all-requires g c = ?
+
+pub plan_for-requires : goal.plan_for-requires
+plan_for-requires g c =
+    let table : Table = of_table (seen-value (g.dyn-1.0, g.dyn-1.1)).it c.args.handles.now in
+    few_bytes c.args.self.now table c.args.renderer.0 c.args.name c.args.parts.now (sym c.in_ok-why.ensures.value ∙ c.in-None.is)
+
+pub add_planned-requires-clause-can : goal.add_planned-requires-clause-can
+unfolding IsWhole
+add_planned-requires-clause-can g c =
+    let table : Table = of_table (seen-value (g.dyn-1.0, g.dyn-1.1)).it c.args.handles.now in
+    may_add c.args.self.now c.requires.whole table c.requires.objects c.args.renderer c.args.name c.args.parts.now (c.in_ok-why.ensures.ends c.in-None.is)
+    (sym c.in_ok-why.ensures.value ∙ c.in-None.is) c.in_ok-plan-in-None.plan c.in_ok-plan-in-None.ensures.value c.in_ok-plan-in-None.ensures.fits
+    c.used-used.ensures.bound c.requires.may
+
+pub claim_all-requires-in-None : goal.claim_all-requires-in-None
+claim_all-requires-in-None g c = ?
+
+pub returns-in_ok-add_planned-in-None-clause-admits : goal.returns-in_ok-add_planned-in-None-clause-admits
+returns-in_ok-add_planned-in-None-clause-admits g c = ?
