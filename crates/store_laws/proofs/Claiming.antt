@@ -152,3 +152,175 @@ free_accepted is_broken parts table renderer name line accepted =
     let silent = none_applies (no_renderer_in parts renderer ∷ name_used_in parts name ∷ slot_tests_in table (claims line) ++ more) accepted in
     free_by is_broken (length table.slots) line (is_claimed_at table) table refl (λ k below. refl)
     (append_first (λ (case : Bool × Refusal). case.0 ≡ false) (slot_tests_in table (claims line)) more silent.1.1)
+
+-- ---- one part
+
+-- what is seen of a slot that nobody claimed
+seen_free : (found : Option Slot) (c h : Bool) (said : Option SlotSaid) → slot_seen found ≡ slot_now c h said → IsSome found
+    → option_map_or (λ (one : Slot). one.is_claimed) found false ≡ false → (c ≡ false) × IsSome said
+seen_free None c h said e there free = absurd (false_true there)
+seen_free (Some one) c h None e there free = absurd (cc e)
+seen_free (Some one) false h (Some said) e there free = (refl, refl)
+seen_free (Some one) true h (Some said) e there free =
+    let same : ◌≡◌ {A = Bool × Option (ℕ × Option (List ℕ))} (one.is_claimed, option_map seen_as one.object)
+    (true, cond (not h) None (Some (said.size, said.bytes))) = cc e in
+    absurd (false_true (sym free ∙ ap (λ (pair : Bool × Option (ℕ × Option (List ℕ))). pair.0) same))
+
+-- and once it is claimed
+seen_taken : (dropped : Bool) (found : Option Slot) (h : Bool) (said : Option SlotSaid) → slot_seen found ≡ slot_now false h said
+    → slot_seen (option_map (taken_slot dropped) found) ≡ slot_now true (not dropped) said
+seen_taken dropped None h None e = refl
+seen_taken dropped None h (Some said) e = absurd (cc e)
+seen_taken dropped (Some one) h None e = absurd (cc e)
+seen_taken true (Some one) h (Some said) e = refl
+seen_taken false (Some one) h (Some said) e =
+    let same : ◌≡◌ {A = Bool × Option (ℕ × Option (List ℕ))} (one.is_claimed, option_map seen_as one.object) (false, Some (said.size, said.bytes)) = cc e in
+    ap (λ (pair : Bool × Option (ℕ × Option (List ℕ))). Some (true, pair.1)) same
+
+taken_flags : (c h broken empty : Bool) (said : Option SlotSaid) → c ≡ false → h ≡ false
+    → slot_now true (not (broken || empty)) said ≡ slot_now (c || true) (h || (not broken && not empty)) said
+taken_flags true h broken empty said e f = absurd (false_true (sym e))
+taken_flags false true broken empty said e f = absurd (false_true (sym f))
+taken_flags false false true empty said e f = refl
+taken_flags false false false empty said e f = refl
+
+other_flags : (c h broken : Bool) (said : Option SlotSaid) → slot_now c h said ≡ slot_now (c || false) (h || (not broken && false)) said
+other_flags true true broken said = refl
+other_flags true false true said = refl
+other_flags true false false said = refl
+other_flags false true broken said = refl
+other_flags false false true said = refl
+other_flags false false false said = refl
+
+-- the slots that are claimed, and those of which an item is, once parts are laid down
+abbrev more_claimed : (ℕ → Bool) → List Part → ℕ → Bool
+more_claimed claimed line k = claimed k || is_in k (claims line)
+
+abbrev more_held : Bool → (ℕ → Bool) → List Part → ℕ → Bool
+more_held is_broken held line k = held k || (not is_broken && list_any (is_ranged k) line)
+
+-- handles stand, and items are of claimed ones
+abbrev BothStand : List SlotSaid → (ℕ → Bool) → (ℕ → Bool) → Table → Type 0
+BothStand slots claimed held table = HandlesStand slots claimed held table × AreClaimed slots claimed held
+
+module _ (slots : List SlotSaid) (claimed held : ℕ → Bool) (table : Table) (both : BothStand slots claimed held table) (is_broken : Bool)
+    (slot off len : ℕ) (free : IsFree table (HandleRange slot off len)) where
+  named : (claimed slot ≡ false) × IsSome (slice_get slots slot)
+  named = seen_free (slot_at table slot) (claimed slot) (held slot) (slice_get slots slot) (both.0 slot)
+      (ap (λ (found : Option Slot). is_some found) (get_there table.slots slot free.0).1) free.1
+
+  unheld : held slot ≡ false
+  unheld = by (held slot) refl
+    where
+      by : (b : Bool) → held slot ≡ b → held slot ≡ false
+      by true at = absurd (false_true (sym named.0 ∙ (both.1 slot at).0))
+      by false at = at
+
+  abbrev held_more : ℕ → Bool
+  held_more k = held k || (not is_broken && is_ranged k (HandleRange slot off len))
+
+  one_stands : HandlesStand slots (λ (k : ℕ). claimed k || (slot == k)) held_more (claimed_by is_broken table (HandleRange slot off len))
+  one_stands k = ap slot_seen (slot_taken (is_broken || (len == 0)) table slot k) ∙ by (slot == k) refl
+    where
+      here : slot_seen (option_map (taken_slot (is_broken || (len == 0))) (slot_at table slot))
+          ≡ slot_now (claimed slot || true) (held slot || (not is_broken && not (len == 0))) (slice_get slots slot)
+      here =
+          seen_taken (is_broken || (len == 0)) (slot_at table slot) (held slot) (slice_get slots slot)
+          (both.0 slot ∙ ap (λ (b : Bool). slot_now b (held slot) (slice_get slots slot)) named.0)
+          ∙ taken_flags (claimed slot) (held slot) is_broken (len == 0) (slice_get slots slot) named.0 unheld
+
+      by : (b : Bool) → (slot == k) ≡ b
+          → slot_seen (cond b (option_map (taken_slot (is_broken || (len == 0))) (slot_at table k)) (slot_at table k))
+          ≡ slot_now (claimed k || b) (held k || (not is_broken && (b && not (len == 0)))) (slice_get slots k)
+      by true at =
+          subst (λ (n : ℕ). slot_seen (option_map (taken_slot (is_broken || (len == 0))) (slot_at table n))
+          ≡ slot_now (claimed n || true) (held n || (not is_broken && not (len == 0))) (slice_get slots n)) (eqb-true slot k at) here
+      by false at = both.0 k ∙ other_flags (claimed k) (held k) is_broken (slice_get slots k)
+
+  one_claimed : AreClaimed slots (λ (k : ℕ). claimed k || (slot == k)) held_more
+  one_claimed k has =
+      ⊎_elim
+      (λ (old : held k ≡ true). (or_first (claimed k) (slot == k) (both.1 k old).0, (both.1 k old).1))
+      (λ (new : (not is_broken && ((slot == k) && not (len == 0))) ≡ true).
+      let is = (and_parts (slot == k) (not (len == 0)) (and_parts (not is_broken) ((slot == k) && not (len == 0)) new).1).0 in
+      (or_second (claimed k) (slot == k) is, subst (λ (n : ℕ). IsSome (slice_get slots n)) (eqb-true slot k is) named.1))
+      (or_cases (held k) (not is_broken && ((slot == k) && not (len == 0))) has)
+
+  one_part : BothStand slots (λ (k : ℕ). claimed k || (slot == k)) held_more (claimed_by is_broken table (HandleRange slot off len))
+  one_part = (one_stands, one_claimed)
+
+-- ---- all parts
+
+same_flags : (slots : List SlotSaid) (claimed other held holds : ℕ → Bool) (table : Table) → ((k : ℕ) → other k ≡ claimed k) → ((k : ℕ) → holds k ≡ held k)
+    → BothStand slots claimed held table → BothStand slots other holds table
+same_flags slots claimed other held holds table c h both = (
+  (λ k. both.0 k ∙ sym (λ i. slot_now (c k i) (h k i) (slice_get slots k))),
+  (λ k has. let was = both.1 k (sym (h k) ∙ has) in (c k ∙ was.0, was.1)),
+)
+
+or_none : (a b : Bool) → (a || (not b && false)) ≡ a
+or_none true b = refl
+or_none false true = refl
+or_none false false = refl
+
+or_false : (a : Bool) → (a || false) ≡ a
+or_false true = refl
+or_false false = refl
+
+or_three : (a b c : Bool) → (a || (b || c)) ≡ ((a || b) || c)
+or_three true b c = refl
+or_three false b c = refl
+
+or_both : (a n b c : Bool) → (a || (n && (b || c))) ≡ ((a || (n && b)) || (n && c))
+or_both true n b c = refl
+or_both false true b c = refl
+or_both false false b c = refl
+
+module _ (slots : List SlotSaid) (is_broken : Bool) where
+  all_parts : (line : List Part) (claimed held : ℕ → Bool) (table : Table) → BothStand slots claimed held table → AreFree is_broken table line
+      → BothStand slots (more_claimed claimed line) (more_held is_broken held line) (fold (claimed_by is_broken) table line)
+  all_parts [] claimed held table both free =
+      same_flags slots claimed (more_claimed claimed []) held (more_held is_broken held []) table (λ k. or_false (claimed k))
+      (λ k. or_none (held k) is_broken) both
+  all_parts (Embedded bytes ∷ line) claimed held table both free = all_parts line claimed held table both free.1
+  all_parts (Asked len ∷ line) claimed held table both free = all_parts line claimed held table both free.1
+  all_parts (FileRange name off len stamp ∷ line) claimed held table both free = all_parts line claimed held table both free.1
+  all_parts (BlobRange b off len ∷ line) claimed held table both free = all_parts line claimed held table both free.1
+  all_parts (HandleRange slot off len ∷ line) claimed held table both free =
+      let one = one_part slots claimed held table both is_broken slot off len free.0 in
+      let now : ℕ → Bool = λ (k : ℕ). claimed k || (slot == k) in
+      let has : ℕ → Bool = λ (k : ℕ). held k || (not is_broken && is_ranged k (HandleRange slot off len)) in
+      same_flags slots (more_claimed now line) (more_claimed claimed (HandleRange slot off len ∷ line)) (more_held is_broken has line)
+      (more_held is_broken held (HandleRange slot off len ∷ line))
+      (fold (claimed_by is_broken) (claimed_by is_broken table (HandleRange slot off len)) line)
+      (λ k. or_three (claimed k) (slot == k) (is_in k (claims line)))
+      (λ k. or_both (held k) (not is_broken) (is_ranged k (HandleRange slot off len)) (list_any (is_ranged k) line))
+      (all_parts line now has (claimed_by is_broken table (HandleRange slot off len)) one free.1)
+
+-- ---- the history with the blob
+
+-- its parts claim handles behind those that were claimed
+pub claims_grow : (s : Session) (h later : History) (new : Build) → Adds s h later new → claimed s later ≡ claimed s h ++ claims new.parts
+claims_grow s h later new adds =
+    ap (flat_map (λ (build : Build). claims build.parts)) adds.blobs
+    ∙ flat_map-append (λ (build : Build). claims build.parts) (builds (page_limit s) h) (new ∷ [])
+    ∙ ap (λ (list : List ℕ). claimed s h ++ list) (append-nil (claims new.parts))
+
+module _ (s : Session) (h later : History) (new : Build) (adds : Adds s h later new) (is_broken : Bool) (table : Table)
+    (shares now : List (Option Share)) (stand : HandlesStand s.outside.slots (λ (k : ℕ). is_in k (claimed s h)) (holds_slot shares) table)
+    (claims_so : AreClaimed s.outside.slots (λ (k : ℕ). is_in k (claimed s h)) (holds_slot shares)) (free : AreFree is_broken table new.parts)
+    (items : (k : ℕ) → holds_slot now k ≡ (holds_slot shares k || (not is_broken && list_any (is_ranged k) new.parts))) where
+  both_built : BothStand s.outside.slots (λ (k : ℕ). is_in k (claimed s later)) (holds_slot now) (fold (claimed_by is_broken) table new.parts)
+  both_built =
+      same_flags s.outside.slots (more_claimed (λ (k : ℕ). is_in k (claimed s h)) new.parts) (λ (k : ℕ). is_in k (claimed s later))
+      (more_held is_broken (holds_slot shares) new.parts) (holds_slot now) (fold (claimed_by is_broken) table new.parts)
+      (λ k. ap (is_in k) (claims_grow s h later new adds)
+      ∙ list_any-append (λ (each : ℕ). each == k) (claimed s h) (claims new.parts))
+      items
+      (all_parts s.outside.slots is_broken new.parts (λ (k : ℕ). is_in k (claimed s h)) (holds_slot shares) table (stand, claims_so) free)
+
+  pub handles_built : HandlesStand s.outside.slots (λ (k : ℕ). is_in k (claimed s later)) (holds_slot now) (fold (claimed_by is_broken) table new.parts)
+  handles_built = both_built.0
+
+  pub claims_built : AreClaimed s.outside.slots (λ (k : ℕ). is_in k (claimed s later)) (holds_slot now)
+  claims_built = both_built.1
