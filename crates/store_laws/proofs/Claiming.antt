@@ -1,9 +1,9 @@
 -- The data handles that the parts of a new blob name are claimed, and stand for the history with the blob.
 use Rattle.std.proofs.Common.{◌≡◌, ℕ, zero, suc, ◌+◌, ◌≤◌, ◌<◌, ◌==◌, ◌&&◌, ◌||◌, Bool, true, false, not, cond, List, [], ◌∷◌, ◌++◌, length, Option, Some, None, refl, ap, subst, sym, ◌∙◌, ⊎_elim, arith}
-use Rattle.std.specs.Prelude.{flat_map, fold, is_some, nat_le, slice_get, slice_set, IsSome}
+use Rattle.std.specs.Prelude.{flat_map, fold, is_some, nat_le, slice_get, slice_set, sum_by, IsSome}
 use Rattle.std.specs.Option.{option_map, option_map_or}
 use Rattle.std.specs.List.{list_any, AllByRecursion}
-use Rattle.std.proofs.lemmas.Bool.{and_parts, eqb-true, leb-false, or_parts}
+use Rattle.std.proofs.lemmas.Bool.{and_parts, eq-eqb, eqb-true, leb-false}
 use Rattle.std.proofs.lemmas.List.{append-nil, length-set}
 use Rattle.std.proofs.lemmas.List.Concat.{flat_map-append}
 use Rattle.std.proofs.lemmas.List.Folds.{list_any-append}
@@ -11,7 +11,9 @@ use Rattle.session_script.specs.declared.event.Part.{Part}
 use Rattle.session_script.specs.declared.event.Part.TheVariants.{Embedded, Asked, FileRange, BlobRange, HandleRange}
 use Rattle.answer_text.specs.declared.refusal.Refusal.{Refusal}
 use Rattle.blob_words.specs.declared.number.RendererId.{RendererId}
+use Rattle.item_shares.specs.declared.item.Item.{Item}
 use Rattle.item_shares.specs.declared.shares.Share.{Share}
+use Rattle.item_shares.specs.Weights.{weights}
 use Rattle.data_handles.specs.Table.{changed_at, claimed as taken, claimed_at, emptied, is_claimed_at, released_at, slot_at, Slot, Table}
 use Rattle.blob_model.specs.Builds.{Build, builds}
 use Rattle.blob_model.specs.Choice.{first_that}
@@ -19,14 +21,15 @@ use Rattle.blob_model.specs.History.{History}
 use Rattle.blob_model.specs.Parts.{claims}
 use Rattle.blob_model.specs.Refusals.{claimed, is_in}
 use Rattle.blob_model.specs.Session.{Session, page_limit, Slot as SlotSaid}
-use Rattle.blob_model.proofs.Lists.{false_true, get_there, or_cases, or_first, or_second}
+use Rattle.blob_model.proofs.Lists.{false_true, get_there, not_same, or_cases, or_first, or_second}
 use Rattle.blob_model.proofs.builds.Cells.{none_applies}
 use Rattle.store_laws.specs.BuildLaws.{Adds}
 use Rattle.store_laws.specs.Claiming.{claimed_by, is_ranged, AreFree, IsFree}
 use Rattle.store_laws.specs.Deciding.{build_refusal_in, many_blobs_in, many_in, name_used_in, no_renderer_in, slot_tests, slot_tests_in, stands_in}
-use Rattle.store_laws.specs.Items.{holds_slot}
+use Rattle.store_laws.specs.Items.{holds_slot, is_range_of}
 use Rattle.store_laws.specs.Stands.{Parts}
 use Rattle.store_laws.specs.Tables.{seen_as, slot_now, slot_seen, AreClaimed, HandlesStand}
+use Rattle.store_laws.proofs.Letting.{none_in, none_of, one_if, some_in, some_of}
 use Rattle.store_laws.proofs.Releasing.{set_here, set_other}
 use Rattle.store_laws.proofs.ViewHas.{append_first}
 
@@ -100,12 +103,11 @@ module _ (is_broken : Bool) (count : ℕ) where
   free_by (Asked len ∷ line) held table many same silent = (tt, free_by line held table many same silent)
   free_by (FileRange name off len stamp ∷ line) held table many same silent = (tt, free_by line held table many same silent)
   free_by (BlobRange b off len ∷ line) held table many same silent = (tt, free_by line held table many same silent)
-  free_by (HandleRange slot off len ∷ line) held table many same silent =
-      (
-        (within, sym (same slot silent.0) ∙ silent.1.0),
-        free_by line (λ (k : ℕ). (slot == k) || held k) (taken_at (is_broken || (len == 0)) table slot)
-            (as_many (is_broken || (len == 0)) table slot ∙ many) later silent.1.1,
-      )
+  free_by (HandleRange slot off len ∷ line) held table many same silent = (
+    (within, sym (same slot silent.0) ∙ silent.1.0),
+    free_by line (λ (k : ℕ). (slot == k) || held k) (taken_at (is_broken || (len == 0)) table slot)
+        (as_many (is_broken || (len == 0)) table slot ∙ many) later silent.1.1,
+  )
     where
       within : slot < length table.slots
       within = let less = leb-false count slot silent.0 in omega (arith, less, many)
@@ -296,6 +298,55 @@ module _ (slots : List SlotSaid) (is_broken : Bool) where
       (λ k. or_three (claimed k) (slot == k) (is_in k (claims line)))
       (λ k. or_both (held k) (not is_broken) (is_ranged k (HandleRange slot off len)) (list_any (is_ranged k) line))
       (all_parts line now has (claimed_by is_broken table (HandleRange slot off len)) one free.1)
+
+-- ---- the items that come
+
+-- a handle is held where it was, or where one of the items that came is of it
+pub slots_held : (shares now : List (Option Share)) (items : List Item)
+    → ((weight : Item → ℕ) → weights weight now ≡ weights weight shares + sum_by weight items) → (k : ℕ)
+    → holds_slot now k ≡ (holds_slot shares k || list_any (is_range_of k) items)
+slots_held shares now items weighs k = by (holds_slot now k) (holds_slot shares k) (list_any (is_range_of k) items) refl refl refl
+  where
+    sum : weights (one_if (is_range_of k)) now ≡ weights (one_if (is_range_of k)) shares + sum_by (one_if (is_range_of k)) items
+    sum = weighs (one_if (is_range_of k))
+
+    by : (c a b : Bool) → holds_slot now k ≡ c → holds_slot shares k ≡ a → list_any (is_range_of k) items ≡ b → c ≡ (a || b)
+    by true true b now_so was came = refl
+    by true false true now_so was came = refl
+    by true false false now_so was came =
+        let some = some_in (is_range_of k) now now_so in
+        let old = none_in (is_range_of k) shares was in
+        let new = none_of (is_range_of k) items came in absurd (omega (arith, sum, some, old, new))
+    by false true b now_so was came =
+        let none = none_in (is_range_of k) now now_so in
+        let some = some_in (is_range_of k) shares was in absurd (omega (arith, sum, none, some))
+    by false false true now_so was came =
+        let none = none_in (is_range_of k) now now_so in
+        let some = some_of (is_range_of k) items came in absurd (omega (arith, sum, none, some))
+    by false false false now_so was came = refl
+
+-- a range with no byte is of no handle, any other of its own
+pub empty_ranged : (k slot off : ℕ) → is_ranged k (HandleRange slot off zero) ≡ false
+empty_ranged k slot off = by (slot == k)
+  where
+    by : (b : Bool) → (b && not (zero == zero)) ≡ false
+    by true = ap not (eq-eqb zero zero refl)
+    by false = refl
+
+pub full_ranged : (k slot off len : ℕ) → is_ranged k (HandleRange slot off (suc len)) ≡ (slot == k)
+full_ranged k slot off len = by (slot == k)
+  where
+    by : (b : Bool) → (b && not (suc len == zero)) ≡ b
+    by true = ap not (not_same (suc len) zero (λ e. absurd (cc e)))
+    by false = refl
+
+-- where the items of each part are of the handle that it is a range of, so are those of all parts
+pub ranges_among : (items_of : Part → List Item) → ((k : ℕ) (part : Part) → list_any (is_range_of k) (items_of part) ≡ is_ranged k part)
+    → (k : ℕ) (line : List Part) → list_any (is_range_of k) (flat_map items_of line) ≡ list_any (is_ranged k) line
+ranges_among items_of each k [] = refl
+ranges_among items_of each k (part ∷ line) =
+    list_any-append (is_range_of k) (items_of part) (flat_map items_of line)
+    ∙ (λ i. each k part i || ranges_among items_of each k line i)
 
 -- ---- the history with the blob
 
