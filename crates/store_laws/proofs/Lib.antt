@@ -74,3 +74,4 @@ pub mod ToldPages
 pub mod Staying
 pub mod Claiming
 pub mod BuiltTables
+pub mod BuiltStands
