@@ -23,7 +23,8 @@ use Rattle.blob_model.specs.Pieces.{pieces}
 use Rattle.blob_model.specs.Refusals.{refusal}
 use Rattle.blob_model.specs.Session.{Session, page_limit}
 use Rattle.store_laws.specs.BuildLaws.{grown_parts, made, Adds, AreAdded, IsEntered}
-use Rattle.store_laws.specs.Claiming.{claimed_by, is_ranged, AreFree}
+use Rattle.store_laws.specs.BuiltStands.{with_name, Came}
+use Rattle.store_laws.specs.Claiming.{claimed_by}
 use Rattle.store_laws.specs.Items.{holds_slot}
 use Rattle.store_laws.specs.LineLaws.{counted}
 use Rattle.store_laws.specs.Rows.{Row}
@@ -35,19 +36,6 @@ use Rattle.store_laws.proofs.BuiltTables.{disk_built, fresh_by_build, fresh_by_s
 use Rattle.store_laws.proofs.Claiming.{claims_built, handles_built}
 use Rattle.store_laws.proofs.Resting.{rests_when_settled}
 use Rattle.store_laws.proofs.Unmarked.{none_marked}
-
--- the blob that is built stands, and what stood
-abbrev pub with_name : ℕ → (ℕ → Bool) → ℕ → Bool
-with_name name stands other = (name == other) || stands other
-
--- what came of a blob, in a later history
-pub record Came (s : Session) (h later : History) (renderer : RendererId) (name : ℕ) (kind : List ℕ) (line : List Part) (is_broken : Bool) (entry : Entry)
-    (row : Row) (now : List (Option Share)) (renderers : Table) (parts : Parts) (table : HandleTable) : Type 0 where
-  pub added : AreAdded (pieces (page_limit s) later) (facts_of s later) (length (pieces (page_limit s) h)) parts.shares now
-  pub entered : IsEntered s later (made s h renderer name kind line) now entry row
-  pub free : AreFree is_broken table line
-  pub held : (k : ℕ) → holds_slot now k ≡ (holds_slot parts.shares k || (not is_broken && list_any (is_ranged k) line))
-  pub handed : ChangesCount (λ (count : ℕ). count + 1) renderer.0 name parts.renderers renderers
 
 module _ (s : Session) (groups : List Group) (legal : IsLegalFrom s start groups) (renderer : RendererId) (name : ℕ) (kind : List ℕ) (line : List Part)
     (is_broken : Bool) (entry : Entry) (row : Row) (now : List (Option Share)) (renderers : Table) (used : ℕ) (stands : ℕ → Bool) (parts : Parts)
