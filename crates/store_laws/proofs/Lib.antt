@@ -75,3 +75,6 @@ pub mod PiecesEntered
 pub mod Losing
 pub mod ToldPages
 pub mod Staying
+pub mod Claiming
+pub mod BuiltTables
+pub mod BuiltStands

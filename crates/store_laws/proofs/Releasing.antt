@@ -34,7 +34,7 @@ turned a b e = by (b == a) refl
     by true at = absurd (false_true (sym e ∙ eq-eqb a b (sym (eqb-true b a at))))
     by false at = at
 
-set_other : {X : Type 0} (xs : List X) (i j : ℕ) (x : X) → (i == j) ≡ false → slice_get (slice_set xs i x) j ≡ slice_get xs j
+pub set_other : {X : Type 0} (xs : List X) (i j : ℕ) (x : X) → (i == j) ≡ false → slice_get (slice_set xs i x) j ≡ slice_get xs j
 set_other [] i j x apart = refl
 set_other (y ∷ xs) zero zero x apart = absurd (false_true (sym apart))
 set_other (y ∷ xs) zero (suc j) x apart = refl
@@ -149,7 +149,7 @@ freed_releasable table shares later freed weighs apart there =
 
 -- ---- what becomes of a slot
 
-set_here : {X : Type 0} (xs : List X) (i : ℕ) (x : X) → IsSome (slice_get xs i) → slice_get (slice_set xs i x) i ≡ Some x
+pub set_here : {X : Type 0} (xs : List X) (i : ℕ) (x : X) → IsSome (slice_get xs i) → slice_get (slice_set xs i x) i ≡ Some x
 set_here [] i x there = absurd (false_true there)
 set_here (y ∷ xs) zero x there = refl
 set_here (y ∷ xs) (suc i) x there = set_here xs i x there

@@ -38,3 +38,5 @@ pub mod LateLists
 pub mod Pageable
 pub mod Unpinned
 pub mod JobLaws
+pub mod Claiming
+pub mod BuiltStands
