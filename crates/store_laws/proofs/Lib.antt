@@ -72,3 +72,5 @@ pub mod LateLists
 pub mod Losing
 pub mod ToldPages
 pub mod Staying
+pub mod Ungranted
+pub mod NewRows
