@@ -74,3 +74,4 @@ pub mod ToldPages
 pub mod Staying
 pub mod Ungranted
 pub mod NewRows
+pub mod NewPieces
