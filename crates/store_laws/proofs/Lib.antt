@@ -78,3 +78,6 @@ pub mod Staying
 pub mod Claiming
 pub mod BuiltTables
 pub mod BuiltStands
+pub mod Ungranted
+pub mod NewRows
+pub mod NewPieces

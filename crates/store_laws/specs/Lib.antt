@@ -40,3 +40,4 @@ pub mod Unpinned
 pub mod JobLaws
 pub mod Claiming
 pub mod BuiltStands
+pub mod NewItems
