@@ -31,7 +31,7 @@ use Rattle.blob_store.specs.Blobs.{Comes, IsInside, Views}
 use Rattle.blob_store.specs.Entering.{arrived, own_by, status_by}
 use Rattle.blob_store.specs.Laying.{first_piece, own_items, sending_by, slot_of}
 use Rattle.blob_store.specs.NewBlobs.{EntryFits}
-use Rattle.blob_store.specs.NewItems.{range_items}
+use Rattle.store_laws.specs.NewItems.{range_items}
 use Rattle.blob_store.specs.Putting.{span}
 use Rattle.blob_store.specs.Rows.{pins, sending_slots}
 use Rattle.blob_store.specs.Seen.{parts_of}

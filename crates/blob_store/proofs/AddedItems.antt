@@ -29,7 +29,7 @@ use Rattle.store_laws.specs.Weights.{memory_weight, piece_weight, range_weight, 
 use Rattle.blob_store.specs.Adding.{new_blob, CanAdd, IsThere}
 use Rattle.blob_store.specs.Laying.{first_piece, homes_by, lengths_by, own_items, sending_by, slot_of, Lays}
 use Rattle.blob_store.specs.NewBlobs.{ItemsFit}
-use Rattle.blob_store.specs.NewItems.{memory_items, range_items, reserved_items}
+use Rattle.store_laws.specs.NewItems.{memory_items, range_items, reserved_items}
 use Rattle.blob_store.specs.Putting.{ArePut, is_seen}
 use Rattle.blob_store.specs.Stored.{IsHeld}
 use Rattle.blob_store.specs.declared.building.laying.Laid.{Laid}

@@ -24,7 +24,7 @@ use Rattle.store_laws.specs.PartLaws.{own_steps, piece_lengths, piece_no, recipe
 use Rattle.store_laws.specs.Stands.{Parts as PartsSaid}
 use Rattle.blob_store.specs.Adding.{IsThere}
 use Rattle.blob_store.specs.Blobs.{IsKnown}
-use Rattle.blob_store.specs.NewItems.{range_items}
+use Rattle.store_laws.specs.NewItems.{range_items}
 use Rattle.blob_store.specs.Seen.{parts_of}
 use Rattle.blob_store.specs.Stored.{row_weights}
 use Rattle.blob_store.specs.declared.parts.Parts.{Parts}

@@ -29,7 +29,7 @@ use Rattle.store_laws.specs.Weights.{piece_weight}
 use Rattle.blob_store.specs.Adding.{arrival_of, new_blob, CanAdd}
 use Rattle.blob_store.specs.Laying.{first_piece, homes_by, lengths_by, own_items, sending_by, slot_of}
 use Rattle.blob_store.specs.NewBlobs.{RowFits}
-use Rattle.blob_store.specs.NewItems.{range_items, reserved_items}
+use Rattle.store_laws.specs.NewItems.{range_items, reserved_items}
 use Rattle.blob_store.specs.Putting.{is_seen}
 use Rattle.blob_store.specs.Rows.{gathered_bytes, gathered_pieces, pieces_to_come, pieces_waiting}
 use Rattle.blob_store.specs.Seen.{parts_of}

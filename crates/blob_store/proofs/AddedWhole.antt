@@ -18,7 +18,7 @@ use Rattle.blob_store.specs.Adding.{arrival_of, new_blob, CanAdd, IsAdded}
 use Rattle.blob_store.specs.Entering.{arrived}
 use Rattle.blob_store.specs.Laying.{first_piece, homes_by, own_items, slot_of}
 use Rattle.blob_store.specs.NewBlobs.{Fits, Grows}
-use Rattle.blob_store.specs.NewItems.{range_items}
+use Rattle.store_laws.specs.NewItems.{range_items}
 use Rattle.blob_store.specs.Rows.{waits_by}
 use Rattle.blob_store.specs.Whole.{with_line, Whole}
 use Rattle.blob_store.specs.declared.parts.Parts.{Parts}

@@ -15,7 +15,7 @@ use Rattle.store_laws.specs.BuildLaws.{AreAdded, IsNew}
 use Rattle.store_laws.specs.EntryLaws.{AreBrought}
 use Rattle.store_laws.specs.Items.{AreOnePerPiece, Facts, item_length, piece_of_item}
 use Rattle.store_laws.specs.PartLaws.{AreRanges, IsAll}
-use Rattle.blob_store.specs.NewItems.{memory_items, range_items, reserved_items}
+use Rattle.store_laws.specs.NewItems.{memory_items, range_items, reserved_items}
 use Rattle.blob_store.specs.Putting.{ArePut, is_seen, span}
 use Rattle.blob_store.proofs.Putting.{seen_vacant}
 

@@ -44,7 +44,7 @@ use Rattle.store_laws.specs.Weights.{range_weight}
 use Rattle.blob_store.specs.Adding.{CanAdd, EndsWithin, IsThere}
 use Rattle.blob_store.specs.Admitting.{MayCome}
 use Rattle.blob_store.specs.Laying.{HasRoom}
-use Rattle.blob_store.specs.NewItems.{range_items}
+use Rattle.store_laws.specs.NewItems.{range_items}
 use Rattle.blob_store.specs.Seen.{parts_of}
 use Rattle.blob_store.specs.Unheld.{HaveObjects}
 use Rattle.blob_store.specs.Whole.{Whole}
@@ -303,7 +303,7 @@ breaks_so parts table renderer name line why is =
       ∷ (is_out_of_memory (plan_in (parts_of parts) line), statuses.OutOfMemory)
       ∷ []
     )
-    why (refl, refl, refl, refl, tt) is
+    why (refl, (refl, (refl, (refl, tt)))) is
 
 -- one that doesn't break has few bytes
 pub few_bytes : (parts : Parts) (table : Table) (renderer name : ℕ) (line : List Part) → line_status_in (parts_of parts) table renderer name line ≡ None

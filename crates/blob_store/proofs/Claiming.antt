@@ -3,7 +3,7 @@ use Rattle.std.proofs.Common.{◌≡◌, ℕ, ◌+◌, ◌<◌, Bool, List, ◌�
 use Rattle.std.proofs.lemmas.List.{drop_more}
 use Rattle.session_script.specs.declared.event.Part.{Part}
 use Rattle.data_handles.specs.Table.{Table}
-use Rattle.blob_store.specs.Claiming.{claimed_by, AreFree, IsFree}
+use Rattle.store_laws.specs.Claiming.{claimed_by, AreFree, IsFree}
 
 -- the next one is free, and those behind it after it
 pub free_at : (is_broken : Bool) (table : Table) (parts : List Part) (i : ℕ) (part : Part) → AreFree is_broken table (drop i parts) → i < length parts

@@ -18,7 +18,8 @@ use Rattle.store_laws.specs.EntryLaws.{all_lengths, AreBrought}
 use Rattle.store_laws.specs.PartLaws.{piece_no, AreRanges}
 use Rattle.store_laws.specs.Weights.{memory_weight, piece_weight, reserved_weight}
 use Rattle.blob_store.specs.Laying.{first_piece, slot_of, HasRoom, Lays}
-use Rattle.blob_store.specs.NewItems.{inline_items, memory_items, range_items, reserved_items, span_length, IsSpanIn}
+use Rattle.store_laws.specs.NewItems.{inline_items, memory_items, range_items, reserved_items}
+use Rattle.blob_store.specs.NewItems.{span_length, IsSpanIn}
 use Rattle.blob_store.specs.Putting.{ArePut}
 use Rattle.blob_store.specs.declared.parts.Parts.{Parts}
 use Rattle.blob_store.specs.declared.row.Sending.TheVariants.{Settled, Waiting, Writing}

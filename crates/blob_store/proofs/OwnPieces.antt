@@ -11,7 +11,8 @@ use Rattle.transport_plan.specs.Spans.{IsEndToEnd, piece_count, piece_spans}
 use Rattle.transport_plan.proofs.SpanLemmas.{cover_sum, pieces_cover, pieces_length}
 use Rattle.store_laws.specs.EntryLaws.{all_lengths, AreBrought}
 use Rattle.store_laws.proofs.Entering.{lengths_all}
-use Rattle.blob_store.specs.NewItems.{inline_items, span_length, IsSpanIn}
+use Rattle.store_laws.specs.NewItems.{inline_items}
+use Rattle.blob_store.specs.NewItems.{span_length, IsSpanIn}
 use Rattle.blob_store.specs.Putting.{ArePut}
 use Rattle.blob_store.proofs.Arriving.{memory_brought}
 use Rattle.blob_store.proofs.Putting.{bytes_long}

@@ -25,7 +25,7 @@ use Rattle.segment_assembly.specs.Assembly.{bytes_at}
 use Rattle.transport_plan.specs.Spans.{piece_count, span_at}
 use Rattle.store_laws.specs.Items.{item_length}
 use Rattle.store_laws.specs.PartLaws.{own_steps, piece_lengths, piece_no}
-use Rattle.blob_store.specs.NewItems.{memory_items, part_items, range_items, reserved_items}
+use Rattle.store_laws.specs.NewItems.{memory_items, part_items, range_items, reserved_items}
 use Rattle.blob_store.specs.Putting.{ArePut, is_seen, span}
 
 -- nothing comes

@@ -21,7 +21,7 @@ use Rattle.store_laws.specs.Weights.{range_weight}
 use Rattle.blob_store.specs.Entering.{arrival_by, arrived, broken_arrival, Enters}
 use Rattle.blob_store.specs.Laying.{first_piece, homes_by, own_items, slot_of, HasRoom, Lays}
 use Rattle.blob_store.specs.NewBlobs.{NewBlob}
-use Rattle.blob_store.specs.NewItems.{range_items}
+use Rattle.store_laws.specs.NewItems.{range_items}
 use Rattle.blob_store.specs.Seen.{parts_of}
 use Rattle.blob_store.specs.declared.building.entering.Arrival.{Arrival}
 use Rattle.blob_store.specs.declared.building.laying.Laid.{Laid}

@@ -12,7 +12,7 @@ use Rattle.blob_model.specs.Choice.{first_that}
 use Rattle.blob_model.specs.Parts.{claims}
 use Rattle.store_laws.specs.Deciding.{line_status_in, many_in, plan_in, slot_tests_in, stands_in}
 use Rattle.blob_store.specs.Adding.{Breaks, CanAdd, IsAdded}
-use Rattle.blob_store.specs.Claiming.{claimed_by}
+use Rattle.store_laws.specs.Claiming.{claimed_by}
 use Rattle.blob_store.specs.Seen.{parts_of}
 use Rattle.blob_store.specs.declared.parts.Parts.{Parts}
 

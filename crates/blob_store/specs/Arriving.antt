@@ -10,7 +10,7 @@ use Rattle.store_laws.specs.BuildLaws.{AreAdded, IsNew}
 use Rattle.store_laws.specs.EntryLaws.{AreBrought}
 use Rattle.store_laws.specs.Items.{AreOnePerPiece, Facts}
 use Rattle.store_laws.specs.PartLaws.{AreRanges}
-use Rattle.blob_store.specs.NewItems.{memory_items, range_items}
+use Rattle.store_laws.specs.NewItems.{memory_items, range_items}
 use Rattle.blob_store.specs.Putting.{ArePut}
 
 pub record Arrive : Type 0 where

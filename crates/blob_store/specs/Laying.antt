@@ -14,7 +14,7 @@ use Rattle.transport_plan.specs.Spans.{piece_count}
 use Rattle.store_laws.specs.EntryLaws.{all_lengths, AreBrought}
 use Rattle.store_laws.specs.PartLaws.{AreRanges}
 use Rattle.store_laws.specs.Weights.{memory_weight, piece_weight, reserved_weight}
-use Rattle.blob_store.specs.NewItems.{inline_items, range_items, reserved_items}
+use Rattle.store_laws.specs.NewItems.{inline_items, range_items, reserved_items}
 use Rattle.blob_store.specs.Putting.{ArePut}
 use Rattle.blob_store.specs.Rows.{waits_by}
 use Rattle.blob_store.specs.declared.building.laying.Laid.{Laid}

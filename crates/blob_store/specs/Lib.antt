@@ -21,6 +21,5 @@ pub mod Arriving
 pub mod NewBlobs
 pub mod Laying
 pub mod Entering
-pub mod Claiming
 pub mod Adding
 pub mod Admitting

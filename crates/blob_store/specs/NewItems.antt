@@ -1,39 +1,8 @@
--- The items of a blob that comes: of its pieces, and of its ranges. Own.
-use Rattle.std.specs.Prelude.{ℕ, zero, suc, ◌+◌, ◌<◌, ◌≤◌, List, [], ◌∷◌, flat_map, map}
-use Rattle.session_script.specs.declared.event.Part.{Part}
-use Rattle.session_script.specs.declared.event.Part.TheVariants.{Embedded, Asked, FileRange, BlobRange, HandleRange}
-use Rattle.item_shares.specs.declared.item.Item.{Item}
-use Rattle.item_shares.specs.declared.item.Item.TheVariants.{Memory, Reserved, File, Range}
+-- Spans of bytes, and what a range takes of views. Own.
+use Rattle.std.specs.Prelude.{ℕ, zero, suc, ◌+◌, ◌<◌, ◌≤◌, List, [], ◌∷◌}
 use Rattle.blob_entries.specs.declared.step.Step.{Step}
 use Rattle.blob_entries.specs.declared.step.Step.TheVariants.{Fixed}
 use Rattle.blob_items.specs.declared.view.View.{View}
-use Rattle.blob_model.specs.Parts.{embedded, own_lengths}
-use Rattle.segment_assembly.specs.Assembly.{bytes_at}
-use Rattle.store_laws.specs.PartLaws.{piece_no}
-use Rattle.transport_plan.specs.Spans.{piece_spans}
-
--- pieces with these bytes in memory, numbered from `number`
-abbrev pub memory_items : ℕ → List (List ℕ) → List Item
-memory_items number [] = []
-memory_items number (bytes ∷ pieces) = Memory (piece_no number) bytes ∷ memory_items (number + 1) pieces
-
--- pieces of these lengths, for which room is reserved
-abbrev pub reserved_items : ℕ → List ℕ → List Item
-reserved_items number [] = []
-reserved_items number (len ∷ lengths) = Reserved (piece_no number) len ∷ reserved_items (number + 1) lengths
-
--- the range of a file or of a data handle, where it isn't empty
-abbrev pub part_items : Part → List Item
-part_items (Embedded bytes) = []
-part_items (Asked len) = []
-part_items (FileRange name off zero stamp) = []
-part_items (FileRange name off (suc len) stamp) = File name stamp off (suc len) ∷ []
-part_items (BlobRange b off len) = []
-part_items (HandleRange k off zero) = []
-part_items (HandleRange k off (suc len)) = Range k off (suc len) ∷ []
-
-abbrev pub range_items : List Part → List Item
-range_items parts = flat_map part_items parts
 
 -- a span lies inside so many bytes, and isn't empty
 abbrev pub IsSpanIn : ℕ → ℕ × ℕ → Type 0
@@ -53,7 +22,3 @@ range_rest (suc len) (view ∷ views) = views
 -- the number of bytes of a span
 abbrev pub span_length : ℕ × ℕ → ℕ
 span_length span = span.1
-
--- the own pieces of parts all of whose bytes are in the line
-abbrev pub inline_items : ℕ → ℕ → List Part → List Item
-inline_items page number parts = memory_items number (map (bytes_at (embedded parts)) (piece_spans page 0 (own_lengths parts)))

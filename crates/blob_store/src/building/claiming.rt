@@ -1,7 +1,7 @@
 //! The data handles that parts name.
 ghost use Rattle.std.specs.Prelude.{◌≡◌, fold};
 ghost use Rattle.data_handles.specs.Boxes.{of_table};
-ghost use Rattle.blob_store.specs.Claiming.{claimed_by, AreFree, IsFree};
+ghost use Rattle.store_laws.specs.Claiming.{claimed_by, AreFree, IsFree};
 
 use data_handles::{Boxed, DataHandle, HandleTable};
 use session_script::Part;

@@ -6,7 +6,7 @@ ghost use Rattle.quota_queue.specs.Queue.{is_waiting};
 ghost use Rattle.transport_plan.specs.Spans.{piece_count};
 ghost use Rattle.store_laws.specs.EntryLaws.{all_lengths, AreBrought};
 ghost use Rattle.blob_store.specs.Laying.{first_piece, slot_of, HasRoom, Lays};
-ghost use Rattle.blob_store.specs.NewItems.{inline_items, reserved_items};
+ghost use Rattle.store_laws.specs.NewItems.{inline_items, reserved_items};
 ghost use Rattle.blob_store.specs.Putting.{ArePut};
 
 use super::homes::{push_homeless, push_homes};

@@ -5,7 +5,8 @@ ghost use Rattle.blob_model.specs.Parts.{embedded, own_bytes, own_lengths};
 ghost use Rattle.segment_assembly.specs.Assembly.{bytes_at};
 ghost use Rattle.transport_plan.specs.Spans.{piece_count};
 ghost use Rattle.store_laws.specs.EntryLaws.{all_lengths, AreBrought};
-ghost use Rattle.blob_store.specs.NewItems.{inline_items, memory_items, reserved_items, span_length, IsSpanIn};
+ghost use Rattle.store_laws.specs.NewItems.{inline_items, memory_items, reserved_items};
+ghost use Rattle.blob_store.specs.NewItems.{span_length, IsSpanIn};
 ghost use Rattle.blob_store.specs.Putting.{ArePut};
 
 use super::putting::put_item;

@@ -2,7 +2,7 @@
 ghost use Rattle.std.specs.Prelude.{◌≡◌, ◌+◌, ◌≤◌, ◌^◌, IfOk, OnOk};
 ghost use Rattle.blob_items.specs.Cells.{total};
 ghost use Rattle.blob_model.specs.Parts.{part_length, parts_length};
-ghost use Rattle.blob_store.specs.NewItems.{part_items, range_items};
+ghost use Rattle.store_laws.specs.NewItems.{part_items, range_items};
 ghost use Rattle.blob_store.specs.Putting.{ArePut, PutAll};
 
 use super::putting::put_item;

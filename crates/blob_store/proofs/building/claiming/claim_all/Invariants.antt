@@ -2,7 +2,7 @@ use Rattle.std.proofs.Common.{◌≡◌, take, drop}
 use Rattle.std.specs.Prelude.{fold}
 use Rattle.data_handles.specs.Boxes.{of_table}
 use Rattle.data_handles.specs.contracts.boxed.BoxedDataHandle.TheImpl.{seen-value}
-use Rattle.blob_store.specs.Claiming.{claimed_by, AreFree}
+use Rattle.store_laws.specs.Claiming.{claimed_by, AreFree}
 use Rattle.blob_store.proofs.building.claiming.claim_all.Given as goal
 
 abbrev pub invariant-loop-part : goal.invariant-loop-part

@@ -5,7 +5,8 @@ use Rattle.item_shares.specs.declared.item.Item.{Item}
 use Rattle.blob_model.specs.Parts.{own_lengths}
 use Rattle.transport_plan.specs.Spans.{piece_spans}
 use Rattle.store_laws.specs.EntryLaws.{AreBrought}
-use Rattle.blob_store.specs.NewItems.{reserved_items, span_length}
+use Rattle.store_laws.specs.NewItems.{reserved_items}
+use Rattle.blob_store.specs.NewItems.{span_length}
 use Rattle.blob_store.specs.Putting.{ArePut}
 use Rattle.blob_store.proofs.Arriving.{reserved_brought}
 use Rattle.blob_store.proofs.OwnPieces.{spans_few, spans_lengths, spans_some, spans_sum}

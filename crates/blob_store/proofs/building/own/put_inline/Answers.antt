@@ -5,7 +5,8 @@ use Rattle.item_shares.specs.declared.item.Item.{Item}
 use Rattle.blob_model.specs.Parts.{embedded, own_lengths}
 use Rattle.segment_assembly.specs.Assembly.{bytes_at}
 use Rattle.transport_plan.specs.Spans.{piece_spans}
-use Rattle.blob_store.specs.NewItems.{inline_items, memory_items, span_length, IsSpanIn}
+use Rattle.store_laws.specs.NewItems.{inline_items, memory_items}
+use Rattle.blob_store.specs.NewItems.{span_length, IsSpanIn}
 use Rattle.blob_store.specs.Putting.{ArePut}
 use Rattle.blob_store.proofs.OwnPieces.{inline_brought, spans_few, spans_inside, spans_sum}
 use Rattle.blob_store.proofs.building.own.put_inline.Goals as goal

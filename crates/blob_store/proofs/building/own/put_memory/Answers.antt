@@ -7,7 +7,8 @@ use Rattle.item_shares.specs.declared.item.Item.{Item}
 use Rattle.item_shares.specs.declared.item.Item.TheVariants.{Memory}
 use Rattle.segment_assembly.specs.Assembly.{bytes_at}
 use Rattle.store_laws.specs.PartLaws.{piece_no}
-use Rattle.blob_store.specs.NewItems.{memory_items, span_length, IsSpanIn}
+use Rattle.store_laws.specs.NewItems.{memory_items}
+use Rattle.blob_store.specs.NewItems.{span_length, IsSpanIn}
 use Rattle.blob_store.specs.Putting.{ArePut}
 use Rattle.blob_store.proofs.Putting.{all_at, bytes_long, memory_join}
 use Rattle.blob_store.proofs.building.own.put_memory.Goals as goal

@@ -1,7 +1,8 @@
 use Rattle.std.proofs.Common.{◌≡◌, ◌+◌, map, sum_by, take}
 use Rattle.blob_items.specs.Cells.{total}
 use Rattle.segment_assembly.specs.Assembly.{bytes_at}
-use Rattle.blob_store.specs.NewItems.{memory_items, span_length}
+use Rattle.store_laws.specs.NewItems.{memory_items}
+use Rattle.blob_store.specs.NewItems.{span_length}
 use Rattle.blob_store.specs.Putting.{ArePut}
 use Rattle.blob_store.proofs.building.own.put_memory.Given as goal
 

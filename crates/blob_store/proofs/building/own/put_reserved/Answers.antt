@@ -6,7 +6,8 @@ use Rattle.blob_items.specs.Cells.{total}
 use Rattle.item_shares.specs.declared.item.Item.{Item}
 use Rattle.item_shares.specs.declared.item.Item.TheVariants.{Reserved}
 use Rattle.store_laws.specs.PartLaws.{piece_no}
-use Rattle.blob_store.specs.NewItems.{reserved_items, span_length}
+use Rattle.store_laws.specs.NewItems.{reserved_items}
+use Rattle.blob_store.specs.NewItems.{span_length}
 use Rattle.blob_store.specs.Putting.{ArePut}
 use Rattle.blob_store.proofs.Putting.{reserved_join}
 use Rattle.blob_store.proofs.building.own.put_reserved.Goals as goal

@@ -1,6 +1,7 @@
 use Rattle.std.proofs.Common.{◌≡◌, ◌+◌, map, sum_by, take}
 use Rattle.blob_items.specs.Cells.{total}
-use Rattle.blob_store.specs.NewItems.{reserved_items, span_length}
+use Rattle.store_laws.specs.NewItems.{reserved_items}
+use Rattle.blob_store.specs.NewItems.{span_length}
 use Rattle.blob_store.specs.Putting.{ArePut}
 use Rattle.blob_store.proofs.building.own.put_reserved.Given as goal
 

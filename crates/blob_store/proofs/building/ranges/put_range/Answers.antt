@@ -3,7 +3,7 @@ use Rattle.std.proofs.Common.{◌≡◌, ℕ, zero, suc, ◌<◌, List, [], ◌�
 use Rattle.session_script.specs.declared.event.Part.TheVariants.{FileRange, HandleRange}
 use Rattle.item_shares.specs.declared.item.Item.{Item}
 use Rattle.item_shares.specs.declared.item.Item.TheVariants.{File, Range}
-use Rattle.blob_store.specs.NewItems.{part_items}
+use Rattle.store_laws.specs.NewItems.{part_items}
 use Rattle.blob_store.specs.Putting.{PutAll}
 use Rattle.blob_store.proofs.building.ranges.put_range.Goals as goal
 

@@ -3,7 +3,7 @@ use Rattle.std.proofs.Common.{◌≡◌, ◌+◌, List, get_or, take, sym, ap, s
 use Rattle.std.proofs.lemmas.List.Sums.{sum_by_more}
 use Rattle.item_shares.specs.declared.item.Item.{Item}
 use Rattle.blob_model.specs.Parts.{part_length}
-use Rattle.blob_store.specs.NewItems.{range_items}
+use Rattle.store_laws.specs.NewItems.{range_items}
 use Rattle.blob_store.specs.Putting.{ArePut}
 use Rattle.blob_store.proofs.Putting.{ranges_more}
 use Rattle.blob_store.proofs.building.ranges.put_ranges.Goals as goal

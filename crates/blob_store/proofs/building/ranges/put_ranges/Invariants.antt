@@ -1,7 +1,7 @@
 use Rattle.std.proofs.Common.{◌≤◌, take}
 use Rattle.blob_items.specs.Cells.{total}
 use Rattle.blob_model.specs.Parts.{parts_length}
-use Rattle.blob_store.specs.NewItems.{range_items}
+use Rattle.store_laws.specs.NewItems.{range_items}
 use Rattle.blob_store.specs.Putting.{ArePut}
 use Rattle.blob_store.proofs.building.ranges.put_ranges.Given as goal
 
