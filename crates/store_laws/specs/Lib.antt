@@ -37,4 +37,5 @@ pub mod Passing
 pub mod LateLists
 pub mod Pageable
 pub mod Unpinned
+pub mod EndLaws
 pub mod JobLaws
