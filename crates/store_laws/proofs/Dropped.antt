@@ -43,28 +43,28 @@ use Rattle.store_laws.proofs.Releasing.{handles_let_go}
 use Rattle.store_laws.proofs.SweptStand.{swept_stands}
 
 -- what a history tells of the tables beside
-record RenderersSaid : Type 0 where
+pub record RenderersSaid : Type 0 where
   pub known : List Renderer
   pub alive : ℕ → Bool
   pub origin : ℕ → List ℕ
   pub count : ℕ → ℕ → ℕ
 
-abbrev renderers_said : History → RenderersSaid
+abbrev pub renderers_said : History → RenderersSaid
 renderers_said g = record { known = spawned g; alive = is_alive g; origin = origin_of g; count = count g }
 
-record UrlsSaid : Type 0 where
+pub record UrlsSaid : Type 0 where
   pub list : List UrlEntry
   pub origin : ℕ → List ℕ
 
-abbrev urls_said : History → UrlsSaid
+abbrev pub urls_said : History → UrlsSaid
 urls_said g = record { list = entries g; origin = origin_of g }
 
-record FilesSaid : Type 0 where
+pub record FilesSaid : Type 0 where
   pub names : List (List ℕ)
   pub state : List ℕ → Option FileState
   pub last : List ℕ → Option ℕ
 
-abbrev files_said : History → FilesSaid
+abbrev pub files_said : History → FilesSaid
 files_said g = record { names = file_names g; state = recorded g; last = last_stamp g }
 
 module _ (s : Session) (h : History) (parts : Parts) (tell : Describes s h parts.book) where

@@ -71,6 +71,7 @@ pub mod PassContents
 pub mod LateLists
 pub mod Pageable
 pub mod Unpinned
+pub mod Ended
 pub mod PiecesEntered
 pub mod Losing
 pub mod ToldPages

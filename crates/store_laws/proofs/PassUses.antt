@@ -49,7 +49,7 @@ by_item : (weight : Item → ℕ) (held : Option Share) → held_weight weight h
 by_item weight None = refl
 by_item weight (Some share) = refl
 
-same_weights : (weight : Item → ℕ) (later shares : List (Option Share)) → ((slot : ℕ) → item_at later slot ≡ item_at shares slot)
+pub same_weights : (weight : Item → ℕ) (later shares : List (Option Share)) → ((slot : ℕ) → item_at later slot ≡ item_at shares slot)
     → weights weight later ≡ weights weight shares
 same_weights weight [] shares same = sym (nothing_held weight shares (λ slot. sym (same slot)))
 same_weights weight (held ∷ later) [] same = nothing_held weight (held ∷ later) same

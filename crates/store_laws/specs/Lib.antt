@@ -37,6 +37,7 @@ pub mod Passing
 pub mod LateLists
 pub mod Pageable
 pub mod Unpinned
+pub mod EndLaws
 pub mod JobLaws
 pub mod Claiming
 pub mod BuiltStands

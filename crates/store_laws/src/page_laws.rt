@@ -1,4 +1,5 @@
-//! Which pieces may be paged, as the parts say, and what is left where pieces on their way go.
+//! What the endings of a pass leave: which pieces may be paged, and which go.
+ghost use Rattle.store_laws.specs.EndLaws.{EndingsStand};
 ghost use Rattle.store_laws.specs.Pageable.{PiecesAreEntered, PiecesMayBePaged};
 ghost use Rattle.store_laws.specs.Unpinned.{UnpinnedStands};
 
@@ -16,4 +17,10 @@ pub fn pieces_are_entered()
 /// The contents stand where items go that no entry views and no piece on its way is in.
 pub fn unpinned_stands()
     ensures { UnpinnedStands }
+{}
+
+/// The endings that a pass tells are those owed, and behind them what is left of the parts stands,
+/// with the same blobs.
+pub fn endings_stand()
+    ensures { EndingsStand }
 {}

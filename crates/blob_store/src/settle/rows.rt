@@ -10,6 +10,7 @@ ghost use Rattle.blob_store.specs.Dropping.{settled_at};
 use crate::freed::discharge_if;
 use crate::parts::Parts;
 use crate::row::{Row, Sending};
+use blob_registry::ended_blob::EndedBlob;
 use blob_words::{BlobName, ItemList};
 use quota_queue::Quota;
 use std::mem;
@@ -45,6 +46,7 @@ fn give_back(quota: &mut Quota, held: &mut u32, lengths: &[u64], page: u64)
 impl Parts {
     ghost use Rattle.std.specs.Prelude.{fold};
     ghost use Rattle.quota_queue.specs.Queue.{without};
+    ghost use Rattle.store_laws.specs.Passing.{ended_names};
     ghost use Rattle.blob_store.specs.Dropping.{settled_by, CanSettle, ChargedBeside, PiecesGo};
     ghost use Rattle.blob_store.specs.Dropping.{RowsGo};
 
@@ -118,6 +120,19 @@ impl Parts {
     {
         for name in names {
             self.drop_row(*name);
+        }
+    }
+
+    // No bytes come any more for the blobs that ended.
+    pub(crate) fn end_rows(&mut self, ended: &[EndedBlob])
+        requires { CanSettle self.old }
+        ensures { RowsGo
+            (fold (settled_by self.old.registry.names) self.old.rows (ended_names ended.now))
+            (fold (λ list name. without name list) self.old.quota.waiting (ended_names ended.now))
+            self.old self.new }
+    {
+        for end in ended {
+            self.drop_row(end.name);
         }
     }
 }

@@ -1,7 +1,7 @@
 use Rattle.blob_store.proofs.Unpinning.{one_unpinned}
 use Rattle.blob_store.proofs.parts.Parts.unpin.Goals as goal
 
--- src/settle/rows.rt:46:9
+-- one pin more goes
 pub loop-slot-preserved : goal.loop-slot-preserved
 loop-slot-preserved c =
     one_unpinned c.args.self.now c.loop-slot.self c.args.slots.now c.loop-slot.slot-index c.loop-slot-test.true c.loop-slot.invariant
