@@ -1,6 +1,6 @@
 -- Renderers, URLs, files, readers and the disk stand for the history with a line that builds, which is one line more.
-use Rattle.std.proofs.Common.{◌≡◌, ℕ, zero, suc, ◌+◌, ◌==◌, ◌&&◌, Bool, true, false, cond, List, [], ◌++◌, ◌∷◌, length, refl, ap, sym, ◌∙◌, Option, Some, None, ℤ, arith}
-use Rattle.std.specs.Prelude.{if◌then◌else◌, nat_lt, sum_by}
+use Rattle.std.proofs.Common.{◌≡◌, ℕ, zero, suc, ◌+◌, ◌==◌, ◌&&◌, Bool, true, false, cond, List, length, refl, ap, sym, ◌∙◌, Option, Some, None, ℤ, arith}
+use Rattle.std.specs.Prelude.{if◌then◌else◌, nat_lt}
 use Rattle.std.specs.BTreeMap.{is_at}
 use Rattle.std.specs.List.{list_any}
 use Rattle.std.specs.Ordering.{nat_cmp}
