@@ -44,7 +44,8 @@ none_held s groups holder name legal fresh = by (count (history_from start group
     by : (n : ℕ) → count (history_from start groups) holder name ≡ n → n ≡ 0
     by zero at = refl
     by (suc n) at =
-        absurd (false_true (sym fresh ∙ (kept_from s start groups (kept_start s) legal).held holder name (ap {B = Bool} (nat_lt 0) at ∙ lt-ltb 0 (suc n) (omega arith))))
+        let has = ap {B = Bool} (nat_lt 0) at ∙ lt-ltb 0 (suc n) (omega arith) in
+        absurd (false_true (sym fresh ∙ (kept_from s start groups (kept_start s) legal).held holder name has))
 
 -- a line that isn't refused builds a blob that wasn't built
 pub fresh_by_build : (s : Session) (h : History) (renderer : RendererId) (name : ℕ) (kind : List ℕ) (line : List Part)
