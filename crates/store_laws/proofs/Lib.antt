@@ -75,3 +75,4 @@ pub mod Staying
 pub mod Ungranted
 pub mod NewRows
 pub mod NewPieces
+pub mod NewBlobs

@@ -37,3 +37,4 @@ pub mod Passing
 pub mod LateLists
 pub mod JobLaws
 pub mod NewItems
+pub mod Arrivals
