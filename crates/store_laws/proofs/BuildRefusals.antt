@@ -158,7 +158,7 @@ claimed_there (Some other) taken held (Some object) e one is =
 -- ---- a line
 
 -- a source of a blob that doesn't break at its line isn't lost
-found_sources : (s : Session) (h : History) (renderer name : ℕ) (line : List Part) → line_status s h renderer name line ≡ None
+pub found_sources : (s : Session) (h : History) (renderer name : ℕ) (line : List Part) → line_status s h renderer name line ≡ None
     → list_any (is_lost_source h renderer) (sources line) ≡ false
 found_sources s h renderer name line none =
     by (list_any (is_invalid s h renderer name) line || nat_lt (2 ^ 62) (parts_length line)) (list_any (is_lost_source h renderer) (sources line)) none
@@ -261,7 +261,7 @@ module _ (s : Session) (h : History) (stands : ℕ → Bool) (parts : Parts) (to
         ∙ ap (λ (n : ℕ). part_weight (page_limit s) (builds (page_limit s) h) part + n) rest
         ∙ sym (sum_by-cons (part_weight (page_limit s) (builds (page_limit s) h)) part line)
 
-    weights_known : (line : List Part) → list_any (is_lost_source h renderer) (sources line) ≡ false
+    pub weights_known : (line : List Part) → list_any (is_lost_source h renderer) (sources line) ≡ false
         → line_weight_in parts line ≡ parts_weight (page_limit s) (builds (page_limit s) h) line
     weights_known [] kept = refl
     weights_known (Embedded bytes ∷ line) kept =

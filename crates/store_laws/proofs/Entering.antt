@@ -80,7 +80,7 @@ before_last page number (build ∷ list) new fresh =
     ∙ sym (length-append (numbered build.name number (spans_of page build)) (pieces_from page (number + length (spans_of page build)) list))
 
 -- the pieces of blobs with one more
-pieces_then : (page number : ℕ) (list : List Build) (new : Build)
+pub pieces_then : (page number : ℕ) (list : List Build) (new : Build)
     → pieces_from page number (list ++ new ∷ [])
     ≡ pieces_from page number list ++ numbered new.name (number + length (pieces_from page number list)) (spans_of page new)
 pieces_then page number [] new =
@@ -96,7 +96,7 @@ pieces_then page number (build ∷ list) new =
     ∙ ap (λ (n : ℕ). rest ++ numbered new.name n (spans_of page new)) same)
     ∙ sym (append_assoc mine rest (numbered new.name (number + length (mine ++ rest)) (spans_of page new)))
 
-firsts_none : (name : ℕ) (list : List Piece) → AllByRecursion (λ (piece : Piece). (piece.blob == name) ≡ false) list
+pub firsts_none : (name : ℕ) (list : List Piece) → AllByRecursion (λ (piece : Piece). (piece.blob == name) ≡ false) list
     → (more : List Piece) → filter (λ (piece : Piece). piece.blob == name) (list ++ more) ≡ filter (λ (piece : Piece). piece.blob == name) more
 firsts_none name [] none more = refl
 firsts_none name (piece ∷ list) none more =
@@ -104,7 +104,7 @@ firsts_none name (piece ∷ list) none more =
     (filter (λ (each : Piece). each.blob == name) (list ++ more))) none.0
     ∙ firsts_none name list none.1 more
 
-all_mine : (name number : ℕ) (spans : List (ℕ × ℕ))
+pub all_mine : (name number : ℕ) (spans : List (ℕ × ℕ))
     → map (λ (piece : Piece). piece.number) (filter (λ (piece : Piece). piece.blob == name) (numbered name number spans))
     ≡ map (λ (piece : Piece). piece.number) (numbered name number spans)
 all_mine name number [] = refl

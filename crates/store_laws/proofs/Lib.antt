@@ -75,3 +75,7 @@ pub mod Staying
 pub mod Claiming
 pub mod BuiltTables
 pub mod BuiltStands
+pub mod Ungranted
+pub mod NewRows
+pub mod NewPieces
+pub mod NewBlobs

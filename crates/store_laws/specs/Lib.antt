@@ -38,3 +38,5 @@ pub mod LateLists
 pub mod JobLaws
 pub mod Claiming
 pub mod BuiltStands
+pub mod NewItems
+pub mod Arrivals
