@@ -1,8 +1,7 @@
 -- The parts stand for the history with a line that builds, where the entry, the row and the items of its blob come, its builder has one handle more, and
 -- the data handles that its parts name are claimed.
-use Rattle.std.proofs.Common.{◌≡◌, ℕ, ◌+◌, ◌==◌, ◌&&◌, ◌||◌, not, Bool, List, [], ◌∷◌, length, refl, subst, sym, Option, None, Some, ℤ}
+use Rattle.std.proofs.Common.{◌≡◌, ℕ, ◌+◌, Bool, List, [], ◌∷◌, refl, subst, Option, None, Some, ℤ}
 use Rattle.std.specs.Prelude.{fold}
-use Rattle.std.specs.List.{list_any}
 use Rattle.blob_words.specs.declared.number.RendererId.{RendererId}
 use Rattle.blob_words.specs.declared.status.Status.{Status}
 use Rattle.session_script.specs.declared.event.Event.TheVariants as events
@@ -12,25 +11,21 @@ use Rattle.blob_entries.specs.declared.entry.Entry.{Entry}
 use Rattle.data_handles.specs.Table.{Table as HandleTable}
 use Rattle.item_shares.specs.declared.shares.Share.{Share}
 use Rattle.page_disk.specs.declared.change.Change.{Change}
-use Rattle.renderer_table.specs.Counted.{ChangesCount}
 use Rattle.renderer_table.specs.Table.{Table}
 use Rattle.blob_model.specs.Builds.{builds, slice_parts}
 use Rattle.blob_model.specs.Construct.{build_answer, build_answer_by, line_status}
 use Rattle.blob_model.specs.History.{History, heard, history_from, start}
 use Rattle.blob_model.specs.Legal.{IsLegalFrom}
 use Rattle.blob_model.specs.Live.{is_live}
-use Rattle.blob_model.specs.Pieces.{pieces}
 use Rattle.blob_model.specs.Refusals.{refusal}
 use Rattle.blob_model.specs.Session.{Session, page_limit}
-use Rattle.store_laws.specs.BuildLaws.{grown_parts, made, Adds, AreAdded, IsEntered}
+use Rattle.store_laws.specs.BuildLaws.{grown_parts, made, Adds}
 use Rattle.store_laws.specs.BuiltStands.{with_name, Came}
 use Rattle.store_laws.specs.Claiming.{claimed_by}
-use Rattle.store_laws.specs.Items.{holds_slot}
 use Rattle.store_laws.specs.LineLaws.{counted}
 use Rattle.store_laws.specs.Rows.{Row}
 use Rattle.store_laws.specs.Stands.{lines, stood, Between, Parts}
 use Rattle.store_laws.specs.Tables.{DiskStands, TablesStand}
-use Rattle.store_laws.specs.Uses.{facts_of}
 use Rattle.store_laws.proofs.Building.{builds_add, grown_stands, listed_are_there}
 use Rattle.store_laws.proofs.BuiltTables.{disk_built, fresh_by_build, fresh_by_slice, none_held, tables_by_build, tables_by_slice}
 use Rattle.store_laws.proofs.Claiming.{claims_built, handles_built}

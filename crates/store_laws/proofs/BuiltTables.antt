@@ -1,6 +1,6 @@
 -- Renderers, URLs, files, readers and the disk stand for the history with a line that builds, which is one line more.
-use Rattle.std.proofs.Common.{◌≡◌, ℕ, zero, suc, ◌+◌, ◌==◌, ◌&&◌, Bool, true, false, cond, List, [], ◌++◌, ◌∷◌, length, refl, ap, sym, ◌∙◌, Option, Some, None, ℤ, arith}
-use Rattle.std.specs.Prelude.{if◌then◌else◌, nat_lt, sum_by}
+use Rattle.std.proofs.Common.{◌≡◌, ℕ, zero, suc, ◌+◌, ◌==◌, ◌&&◌, Bool, true, false, cond, List, length, refl, ap, sym, ◌∙◌, Option, Some, None, ℤ, arith}
+use Rattle.std.specs.Prelude.{if◌then◌else◌, nat_lt}
 use Rattle.std.specs.BTreeMap.{is_at}
 use Rattle.std.specs.List.{list_any}
 use Rattle.std.specs.Ordering.{nat_cmp}
@@ -44,7 +44,8 @@ none_held s groups holder name legal fresh = by (count (history_from start group
     by : (n : ℕ) → count (history_from start groups) holder name ≡ n → n ≡ 0
     by zero at = refl
     by (suc n) at =
-        absurd (false_true (sym fresh ∙ (kept_from s start groups (kept_start s) legal).held holder name (ap {B = Bool} (nat_lt 0) at ∙ lt-ltb 0 (suc n) (omega arith))))
+        let has = ap {B = Bool} (nat_lt 0) at ∙ lt-ltb 0 (suc n) (omega arith) in
+        absurd (false_true (sym fresh ∙ (kept_from s start groups (kept_start s) legal).held holder name has))
 
 -- a line that isn't refused builds a blob that wasn't built
 pub fresh_by_build : (s : Session) (h : History) (renderer : RendererId) (name : ℕ) (kind : List ℕ) (line : List Part)

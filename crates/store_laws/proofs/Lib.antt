@@ -82,3 +82,4 @@ pub mod BuiltStands
 pub mod Ungranted
 pub mod NewRows
 pub mod NewPieces
+pub mod NewBlobs

@@ -143,7 +143,7 @@ module _ (s : Session) (groups : List Group) (legal : IsLegalFrom s start groups
     made_broken : (why : Status) → line_status s h renderer.0 name line ≡ Some why → new ≡ with_plan None
     made_broken why at = ap (λ (o : Option Status). with_plan (plan_told (build_answer_by s h name line o))) at
 
-    made_planned : (plan : Plan) → line_status s h renderer.0 name line ≡ None → plan_for s h line ≡ plan → new ≡ with_plan (Some plan)
+    pub made_planned : (plan : Plan) → line_status s h renderer.0 name line ≡ None → plan_for s h line ≡ plan → new ≡ with_plan (Some plan)
     made_planned plan at planned =
         ap (λ (o : Option Status). with_plan (plan_told (build_answer_by s h name line o))) at ∙ ap (λ (each : Plan). with_plan (Some each)) planned
 

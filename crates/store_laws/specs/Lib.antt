@@ -42,3 +42,4 @@ pub mod JobLaws
 pub mod Claiming
 pub mod BuiltStands
 pub mod NewItems
+pub mod Arrivals

@@ -1,11 +1,14 @@
 -- The items of a blob that comes: of its pieces, and of its ranges. Own.
 use Rattle.std.specs.Prelude.{ℕ, zero, suc, ◌+◌, List, [], ◌∷◌, flat_map, map}
+use Rattle.blob_words.specs.declared.plan.Plan.{Plan}
+use Rattle.blob_words.specs.declared.plan.Plan.TheVariants as plans
 use Rattle.session_script.specs.declared.event.Part.{Part}
 use Rattle.session_script.specs.declared.event.Part.TheVariants.{Embedded, Asked, FileRange, BlobRange, HandleRange}
 use Rattle.item_shares.specs.declared.item.Item.{Item}
 use Rattle.item_shares.specs.declared.item.Item.TheVariants.{Memory, Reserved, File, Range}
 use Rattle.blob_model.specs.Parts.{embedded, own_lengths}
 use Rattle.segment_assembly.specs.Assembly.{bytes_at}
+use Rattle.store_laws.specs.EntryLaws.{all_lengths}
 use Rattle.store_laws.specs.PartLaws.{piece_no}
 use Rattle.transport_plan.specs.Spans.{piece_spans}
 
@@ -35,3 +38,9 @@ range_items parts = flat_map part_items parts
 -- the own pieces of parts all of whose bytes are in the line
 abbrev pub inline_items : ℕ → ℕ → List Part → List Item
 inline_items page number parts = memory_items number (map (bytes_at (embedded parts)) (piece_spans page 0 (own_lengths parts)))
+
+-- the items of the own pieces that come at once: in memory, reserved in page files, or none while they wait
+abbrev pub own_items : ℕ → ℕ → Plan → List Part → List Item
+own_items page first (plans.Shared n) parts = []
+own_items page first (plans.File n) parts = reserved_items first (all_lengths page parts)
+own_items page first plan parts = inline_items page first parts
