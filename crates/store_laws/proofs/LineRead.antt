@@ -1,5 +1,5 @@
 -- The answer of a line that builds, read off the parts of a store.
-use Rattle.std.proofs.Common.{◌≡◌, ℕ, false, List, [], ap, sym, ◌∙◌, Option, Some, None}
+use Rattle.std.proofs.Common.{◌≡◌, ℕ, Bool, false, List, [], ap, sym, ◌∙◌, Option, Some, None}
 use Rattle.blob_words.specs.declared.number.RendererId.{RendererId}
 use Rattle.blob_words.specs.declared.plan.Plan.{Plan}
 use Rattle.blob_words.specs.declared.status.Status.{Status}
