@@ -62,3 +62,4 @@ pub mod CanAdd
 pub mod AddedRecipe
 pub mod AddedEntry
 pub mod AddedWhole
+pub mod SeenGrown
