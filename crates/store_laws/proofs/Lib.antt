@@ -72,3 +72,4 @@ pub mod LateLists
 pub mod Losing
 pub mod ToldPages
 pub mod Staying
+pub mod Writing

@@ -36,3 +36,4 @@ pub mod DecidingLaws
 pub mod Passing
 pub mod LateLists
 pub mod JobLaws
+pub mod StepLaws

@@ -5,4 +5,5 @@ mod deciding_laws;
 mod job_laws;
 mod late_laws;
 mod laws;
+mod step_laws;
 mod table_laws;
