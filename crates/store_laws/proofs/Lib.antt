@@ -73,3 +73,4 @@ pub mod Losing
 pub mod ToldPages
 pub mod Staying
 pub mod Writing
+pub mod Stepping
