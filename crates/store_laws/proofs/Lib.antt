@@ -74,3 +74,5 @@ pub mod ToldPages
 pub mod Staying
 pub mod Writing
 pub mod Stepping
+pub mod Unread
+pub mod Stepped

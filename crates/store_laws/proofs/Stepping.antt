@@ -109,7 +109,7 @@ beside_built P name entry (build ∷ list) (held ∷ entries) all at =
 
 -- ---- cells that lie inside items
 
-abbrev CellLies : Origins → List (Option Share) → ℕ × ℕ → Type 0
+abbrev pub CellLies : Origins → List (Option Share) → ℕ × ℕ → Type 0
 CellLies from shares cell = IsSomeAnd (item_at shares cell.0) (Lies from cell.1 1)
 
 module _ (from : Origins) where
@@ -137,7 +137,7 @@ module _ (from : Origins) where
         by None at is = absurd is
         by (Some item) at is = range_lies view.slot item at view.off view.len view.off view.len is (omega arith) (omega arith)
 
-    all_lie : (views : List View) → AllByRecursion (ViewLies from shares) views → AllByRecursion (CellLies from shares) (cells views)
+    pub all_lie : (views : List View) → AllByRecursion (ViewLies from shares) views → AllByRecursion (CellLies from shares) (cells views)
     all_lie [] lies = tt
     all_lie (view ∷ views) lies = all_append (CellLies from shares) (view_cells view) (cells views) (view_lies view lies.0) (all_lie views lies.1)
 
@@ -189,6 +189,19 @@ one_front x (y ∷ xs) ys (inr later) = inr (one_front x xs ys later)
 one_back : {X : Type 0} (x : X) (xs ys : List X) → IsOneOf x ys → IsOneOf x (xs ++ ys)
 one_back x [] ys one = one
 one_back x (y ∷ xs) ys one = inr (one_back x xs ys one)
+
+-- the piece of a byte of a piece is that piece
+pub owner_cell : (s : Session) (h : History) → Distinct (builds (page_limit s) h) → (number : ℕ) (one : Piece) (place : ℕ)
+    → piece_in (pieces (page_limit s) h) number ≡ Some one → place < one.len
+    → piece_with (pieces (page_limit s) h) (sent one.blob (one.from + place)) ≡ Some one
+owner_cell s h distinct number one place at within =
+    let low : nat_le one.from (one.from + place) ≡ true = le-leb one.from (one.from + place) (omega arith) in
+    let high : nat_lt (one.from + place) (one.from + one.len) ≡ true = lt-ltb (one.from + place) (one.from + one.len) (omega (arith, within)) in
+    let owned : owns one (sent one.blob (one.from + place)) ≡ true =
+    ap (λ (b : Bool). b && nat_le one.from (one.from + place) && nat_lt (one.from + place) (one.from + one.len)) (eq-eqb one.blob one.blob refl)
+    ∙ ap (λ (b : Bool). b && nat_lt (one.from + place) (one.from + one.len)) low ∙ high in
+    found_all (IsOwner (pieces (page_limit s) h)) (λ (each : Piece). each.number == number) (pieces (page_limit s) h) one
+    (owners (pieces (page_limit s) h) (pieces_staggered s.limits 0 (builds (page_limit s) h) distinct)) at (sent one.blob (one.from + place)) owned
 
 -- ---- what is read
 
@@ -320,14 +333,7 @@ module _ (s : Session) (h : History) (stands : ℕ → Bool) (parts : Parts) (to
     page_cell None number page off len place at placed within = absurd placed
     page_cell (Some one) number page off len place at placed within =
         let long = placed.3 in
-        let low : nat_le one.from (one.from + place) ≡ true = le-leb one.from (one.from + place) (omega arith) in
-        let high : nat_lt (one.from + place) (one.from + one.len) ≡ true = lt-ltb (one.from + place) (one.from + one.len) (omega (arith, within, long)) in
-        let owned : owns one (sent one.blob (one.from + place)) ≡ true =
-        ap (λ (b : Bool). b && nat_le one.from (one.from + place) && nat_lt (one.from + place) (one.from + one.len)) (eq-eqb one.blob one.blob refl)
-        ∙ ap (λ (b : Bool). b && nat_lt (one.from + place) (one.from + one.len)) low ∙ high in
-        let mine : piece_with all (sent one.blob (one.from + place)) ≡ Some one =
-        found_all (IsOwner all) (λ (each : Piece). each.number == number) all one
-        (owners all (pieces_staggered s.limits 0 (builds (page_limit s) h) distinct)) at (sent one.blob (one.from + place)) owned in
+        let mine = owner_cell s h distinct number one place at (omega (arith, within, long)) in
         ap (sent_fault s h reader) mine ∙ ap (page_fault reader) placed.1
 
     page_read : (page : PageNo) (front rest : List (ℕ × ℕ)) (cell : ℕ × ℕ) → list_any failing front ≡ false
@@ -407,7 +413,7 @@ module _ (s : Session) (h : History) (stands : ℕ → Bool) (parts : Parts) (to
       by None false false e = absurd (cc e)
       by (Some status) a b e = ap (λ (one : Status). Some one) e
 
-  cells_stand : (name : ℕ) (entry : Entry) → entry_of parts.book name ≡ Some entry → entry.status ≡ statuses.Done
+  pub cells_stand : (name : ℕ) (entry : Entry) → entry_of parts.book name ≡ Some entry → entry.status ≡ statuses.Done
       → denoted all parts.shares entry.views ≡ cells_in (builds (page_limit s) h) name
   cells_stand name entry at done =
       let one = beside_built (EntryStands (builds (page_limit s) h) all parts.shares (own_pieces (page_limit s) h)) name entry (builds (page_limit s) h)
@@ -418,7 +424,7 @@ module _ (s : Session) (h : History) (stands : ℕ → Bool) (parts : Parts) (to
       stood.0 ∙ sym (ap (λ (found : Option Build). option_map_or (λ (build : Build). build.cells) found []) one.1)
 
   -- the cells that a step with enough room reads are those that the history reads
-  chunk_read : (open_reader : OpenReader) (entry : Entry) (size room : ℕ)
+  pub chunk_read : (open_reader : OpenReader) (entry : Entry) (size room : ℕ)
       → denoted all parts.shares entry.views ≡ cells_in (builds (page_limit s) h) open_reader.blob
       → min room (open_reader.end - open_reader.place) ≡ min (open_reader.end - open_reader.place) s.limits.chunk
       → map said (next_cells (record { size = size; place = open_reader.place; stop = open_reader.end }) room entry.views) ≡ chunk s.limits h open_reader
@@ -433,7 +439,7 @@ module _ (s : Session) (h : History) (stands : ℕ → Bool) (parts : Parts) (to
   next_read reader open_reader own zero some is = absurd (omega (arith, some))
   next_read reader open_reader own (suc more) some is = is
 
-short_take : {X : Type 0} (n : ℕ) (xs : List X) → length (take n xs) ≤ n
+pub short_take : {X : Type 0} (n : ℕ) (xs : List X) → length (take n xs) ≤ n
 short_take zero xs = omega arith
 short_take (suc n) [] = omega arith
 short_take (suc n) (x ∷ xs) = let rest = short_take n xs in omega (arith, rest)

@@ -1,5 +1,5 @@
 //! Steps of readers.
-ghost use Rattle.store_laws.specs.StepLaws.{PagesAreWritten, StepTells};
+ghost use Rattle.store_laws.specs.StepLaws.{PagesAreWritten, StepLeaves, StepTells, StepUnread};
 
 /// In a legal transcript each page file was written with the bytes of its pieces.
 pub fn pages_are_written()
@@ -9,4 +9,15 @@ pub fn pages_are_written()
 /// On a blob that is done a step gives the answer that the history allows.
 pub fn step_tells()
     ensures { StepTells }
+{}
+
+/// On one that is unfinished it waits, and on a broken one the reader is at its end.
+pub fn step_unread()
+    ensures { StepUnread }
+{}
+
+/// The parts stand for the history with a step that waits, that closes its reader, or that gives
+/// bytes.
+pub fn step_leaves()
+    ensures { StepLeaves }
 {}
