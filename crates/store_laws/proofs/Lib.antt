@@ -76,3 +76,4 @@ pub mod Writing
 pub mod Stepping
 pub mod Unread
 pub mod Stepped
+pub mod Using

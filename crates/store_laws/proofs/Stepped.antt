@@ -252,7 +252,7 @@ once_uses l (refused h event why) = once_uses l h
 once_uses l (said h answer) = once_answer l.page h answer (last_uses l h) (once_uses l h)
 
 -- what is used stays so
-member_used : (uses : List ℕ) (n m : ℕ) → list_any (λ (each : ℕ). each == m) uses ≡ true → list_any (λ (each : ℕ). each == m) (used uses n) ≡ true
+pub member_used : (uses : List ℕ) (n m : ℕ) → list_any (λ (each : ℕ). each == m) uses ≡ true → list_any (λ (each : ℕ). each == m) (used uses n) ≡ true
 member_used uses n m there = go (n == m) refl
   where
     go : (b : Bool) → (n == m) ≡ b → list_any (λ (each : ℕ). each == m) (used uses n) ≡ true

@@ -148,6 +148,9 @@ AreUsed s h =
     AllByRecursion (λ (piece : Piece). is_done h piece.blob ≡ true → list_any (λ (each : ℕ). each == piece.number) (last_uses s.limits h) ≡ true)
     (pieces (page_limit s) h)
 
+abbrev pub DoneAreUsed : Type 0
+DoneAreUsed = (s : Session) (groups : List Group) → IsLegalFrom s start groups → AreUsed s (history_from start groups)
+
 -- the reader goes on, and the pieces read are the last ones used
 abbrev pub StepGives : Type 0
 StepGives = WhereStanding (λ s h stands parts told table.

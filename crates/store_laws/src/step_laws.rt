@@ -1,5 +1,6 @@
 //! Steps of readers.
-ghost use Rattle.store_laws.specs.StepLaws.{PagesAreWritten, StepLeaves, StepTells, StepUnread};
+ghost use Rattle.store_laws.specs.StepLaws.{DoneAreUsed, PagesAreWritten, StepLeaves, StepTells};
+ghost use Rattle.store_laws.specs.StepLaws.{StepUnread};
 
 /// In a legal transcript each page file was written with the bytes of its pieces.
 pub fn pages_are_written()
@@ -20,4 +21,9 @@ pub fn step_unread()
 /// bytes.
 pub fn step_leaves()
     ensures { StepLeaves }
+{}
+
+/// In a legal transcript each piece of a blob that is done was used.
+pub fn done_are_used()
+    ensures { DoneAreUsed }
 {}
