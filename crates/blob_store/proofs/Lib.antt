@@ -27,3 +27,4 @@ pub mod Refused
 pub mod Putting
 pub mod Arriving
 pub mod HeardJobs
+pub mod Moving

@@ -16,3 +16,4 @@ pub mod Departing
 pub mod NewItems
 pub mod Putting
 pub mod Arriving
+pub mod Steps
