@@ -28,3 +28,4 @@ pub mod Putting
 pub mod Arriving
 pub mod HeardJobs
 pub mod Moving
+pub mod Touching
