@@ -29,3 +29,4 @@ pub mod Arriving
 pub mod HeardJobs
 pub mod Moving
 pub mod Touching
+pub mod HeardSteps
