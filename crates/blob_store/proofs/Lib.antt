@@ -63,3 +63,6 @@ pub mod AddedRecipe
 pub mod AddedEntry
 pub mod AddedWhole
 pub mod SeenGrown
+pub mod Moving
+pub mod Touching
+pub mod HeardSteps

@@ -16,4 +16,5 @@ mod refusals;
 mod revoke;
 mod spawn;
 mod stat;
+mod touching;
 mod url;

@@ -84,3 +84,8 @@ pub mod NewRows
 pub mod NewPieces
 pub mod NewBlobs
 pub mod LineRead
+pub mod Writing
+pub mod Stepping
+pub mod Unread
+pub mod Stepped
+pub mod Using
