@@ -7,3 +7,6 @@ mod Judging
 mod GoodCells
 mod Arrivals
 mod CellReads
+mod OwnFronts
+mod Ends
+mod Verdicts
