@@ -126,6 +126,12 @@ pub first_illegal : (outside : Outside) (old list : List Group) (group : Group) 
 first_illegal outside [] list group none begins is = (refl, λ legal. begins legal.0 legal.1 legal.2, is)
 first_illegal outside (first ∷ more) list group none begins is = cc
 
+-- a run that was begun keeps the groups behind the first
+pub begun_keeps : (outside : Outside) (first : Group) (more : List Group) (run new : Run) → Begins outside first (Some run)
+    → ((s : Session) (h : History) → FollowsRun s h run → FollowsRun s (history_from h more) new) → Keeps outside (first ∷ more) new
+begun_keeps outside first more run new begins taken =
+    (session outside begins.0 begins.1, begun_session outside first begins.0 begins.1 begins.2, taken (session outside begins.0 begins.1) start begins.3)
+
 -- whether a group begins a session
 good_alone : (list : List Answer) → is_good_alone list ≡ true → list ≡ answers.Good ∷ []
 good_alone [] e = absurd (false_true e)

@@ -12,26 +12,26 @@ use Rattle.transcript_audit.proofs.auditor.judge_next.Goals as goal
 pub returns-then-large : goal.returns-then-large
 returns-then-large c = λ s h follows. sym (c.in_ok-large.ensures s h follows.0.follows) ∙ c.if-large.true
 
-pub returns-then-run-ended : goal.returns-then-run-ended
-returns-then-run-ended c = λ s h follows. (
+pub returns-then-run : goal.returns-then-run
+returns-then-run c = λ s h follows. (
   sym (c.in_ok-large.ensures s h follows.0.follows) ∙ c.if-large.false,
-  λ legal. false_true (sym legal.open_still ∙ sym follows.1 ∙ c.if-run-ended.true),
+  λ legal. false_true (sym legal.open_still ∙ sym follows.1 ∙ c.if-run.true),
 )
 
 pub returns-then-not-legal : goal.returns-then-not-legal
 returns-then-not-legal c = λ s h follows. (
   sym (c.in_ok-large.ensures s h follows.0.follows) ∙ c.if-large.false,
   subst (λ (b : Bool). Judged s h c.args.group.now c.judge.new.course b) c.if-not-legal.true
-      (c.in_ok-legal.ensures s h follows.0 (sym follows.1 ∙ c.if-run-ended.false)),
+      (c.in_ok-legal.ensures s h follows.0 (sym follows.1 ∙ c.if-run.false)),
 )
 
 pub returns : goal.returns
 returns c = λ s h follows.
     let event : Event = c.args.group.now.event in
     let list : List Answer = c.args.group.now.answers in
-    let going : has_ended h ≡ false = sym follows.1 ∙ c.if-run-ended.false in
+    let going : has_ended h ≡ false = sym follows.1 ∙ c.if-run.false in
     let judged : Judged s h c.args.group.now c.judge.new.course true =
     subst (λ (b : Bool). Judged s h c.args.group.now c.judge.new.course b) c.if-not-legal.false (c.in_ok-legal.ensures s h follows.0 going) in
-    let ended : c.ends.result ≡ has_ended (after h event list) =
-    c.ends.ensures ∙ ap (ends event) c.as_slice.ensures ∙ sym (line_ended h event list ∙ ap (λ (b : Bool). b || ends event list) going) in
+    let ended : c.ends-run.result ≡ has_ended (after h event list) =
+    c.ends-run.ensures ∙ ap (ends event) c.as_slice.ensures ∙ sym (line_ended h event list ∙ ap (λ (b : Bool). b || ends event list) going) in
     (sym (c.in_ok-large.ensures s h follows.0.follows) ∙ c.if-large.false, judged.0, (judged.1, ended))

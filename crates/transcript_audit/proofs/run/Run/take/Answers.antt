@@ -16,6 +16,6 @@ returns c = λ s h follows.
     subst (λ (own : List Answer). FollowsCourse s (after h event own) c.take_line.new.course) c.as_slice-answers.ensures
     (c.in_ok-take_line.ensures s h follows.0) in (
       kept,
-      c.either.ensures ∙ ap (λ (b : Bool). c.args.self.now.ended || b) (c.ends.ensures ∙ ap (ends event) c.as_slice-answers.ensures)
+      c.either-self.ensures ∙ ap (λ (b : Bool). c.args.self.now.ended || b) (c.ends.ensures ∙ ap (ends event) c.as_slice-answers.ensures)
           ∙ ap (λ (b : Bool). b || ends event list) follows.1 ∙ sym (line_ended h event list),
     )
