@@ -1,5 +1,5 @@
 -- The own answers at the front of a list, where a test tells them.
-use Rattle.std.proofs.Common.{◌≡◌, ℕ, ◌+◌, ◌≤◌, ◌<◌, Bool, true, false, List, [], ◌∷◌, ◌++◌, length, get_or, take, Option, Some, None, refl, subst, sym, ap, ◌∙◌, arith, if◌then◌else◌}
+use Rattle.std.proofs.Common.{◌≡◌, ℕ, ◌≤◌, ◌<◌, Bool, true, false, List, [], ◌∷◌, ◌++◌, length, get_or, take, Option, Some, None, refl, subst, sym, ap, ◌∙◌, arith, if◌then◌else◌}
 use Rattle.std.proofs.lemmas.List.{take_more}
 use Rattle.blob_words.specs.declared.number.RendererId.{RendererId}
 use Rattle.blob_words.specs.declared.plan.Plan.{Plan}
@@ -12,7 +12,7 @@ use Rattle.answer_text.specs.declared.refusal.Refusal.{Refusal}
 use Rattle.blob_model.specs.Session.{Session}
 use Rattle.blob_model.specs.History.{History}
 use Rattle.blob_model.specs.Refusals.{refusal}
-use Rattle.blob_model.specs.Own.{accepted, failing, plan_in, IsAccepted, IsOwnBy, IsOwn}
+use Rattle.blob_model.specs.Own.{accepted, failing, plan_in, IsOwnBy, IsOwn}
 use Rattle.blob_model.proofs.Lists.{false_true}
 use Rattle.transcript_audit.specs.Tests.{same_answer, is_file, is_pair_among}
 use Rattle.transcript_audit.specs.OwnTests.{is_single, plan_count, event_count, own_count_by, own_count, OwnFound}

@@ -1,5 +1,5 @@
 -- What a verdict says of the next group, of groups that a run keeps.
-use Rattle.std.proofs.Common.{◌≡◌, ◌&&◌, Bool, true, false, List, [], ◌∷◌, ◌++◌, Option, None, Some, refl, sym, ap, subst, ◌∙◌}
+use Rattle.std.proofs.Common.{◌≡◌, true, false, List, [], ◌∷◌, ◌++◌, Option, None, Some, refl, sym, ap, subst, ◌∙◌}
 use Rattle.std.specs.Option.{option_map_or}
 use Rattle.std.proofs.lemmas.Bool.{and_parts}
 use Rattle.blob_words.specs.declared.limits.Limits.{Limits}
@@ -11,7 +11,7 @@ use Rattle.answer_text.specs.declared.answer.Answer.{Answer}
 use Rattle.answer_text.specs.declared.answer.Answer.TheVariants as answers
 use Rattle.answer_text.specs.declared.group.Group.{Group}
 use Rattle.blob_model.specs.Session.{Outside, Session}
-use Rattle.blob_model.specs.History.{History, start, after, history_from, has_ended}
+use Rattle.blob_model.specs.History.{History, start, after, history_from}
 use Rattle.blob_model.specs.Legal.{IsLegalGroup, IsLegalFrom, IsLegal, first_line, opening, session}
 use Rattle.blob_model.proofs.Lists.{false_true}
 use Rattle.blob_model.proofs.legal.Fronts.{more_legal}
@@ -19,7 +19,7 @@ use Rattle.blob_model.proofs.tested.Answers.{same_answer-sound}
 use Rattle.transcript_audit.specs.declared.run.Run.{Run}
 use Rattle.transcript_audit.specs.declared.verdict.Verdict.{Verdict}
 use Rattle.transcript_audit.specs.declared.verdict.Verdict.TheVariants.{Legal, Illegal, Large}
-use Rattle.transcript_audit.specs.Tests.{same_answer, same_tally}
+use Rattle.transcript_audit.specs.Tests.{same_tally}
 use Rattle.transcript_audit.specs.Large.{is_large}
 use Rattle.transcript_audit.specs.Runs.{session_by, is_good_alone, is_quiet, FollowsRun, Begins, Keeps}
 use Rattle.transcript_audit.specs.Says.{is_large_after, Says, SaysNext}

@@ -3,7 +3,6 @@ use Rattle.std.specs.Prelude.{◌≡◌, ◌&&◌, Bool, true, false, List, [], 
 use Rattle.blob_words.specs.declared.limits.Limits.{Limits}
 use Rattle.blob_words.specs.declared.version.Version.{Version}
 use Rattle.blob_words.specs.declared.version.Version.TheVariants.{One, Two}
-use Rattle.blob_words.specs.declared.tally.Tally.{Tally}
 use Rattle.session_script.specs.declared.event.Event.{Event}
 use Rattle.session_script.specs.declared.event.Event.TheVariants as events
 use Rattle.answer_text.specs.declared.answer.Answer.{Answer}

@@ -1,5 +1,5 @@
 -- What the verdict on the group after a history says of it after the groups that were taken.
-use Rattle.std.proofs.Common.{◌≡◌, List, ◌∷◌, ◌++◌, refl, sym, subst}
+use Rattle.std.proofs.Common.{List, refl, sym, subst}
 use Rattle.answer_text.specs.declared.group.Group.{Group}
 use Rattle.transcript_audit.specs.declared.verdict.Verdict.{Verdict}
 use Rattle.transcript_audit.specs.declared.verdict.Verdict.TheVariants.{Legal, Illegal}

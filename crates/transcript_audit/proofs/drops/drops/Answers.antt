@@ -1,9 +1,9 @@
 -- The lost blobs of the history, the last first.
-use Rattle.std.proofs.Common.{◌≡◌, ℕ, ◌&&◌, Bool, not, List, Option, map, ap, ◌∙◌}
+use Rattle.std.proofs.Common.{◌≡◌, ℕ, ◌&&◌, not, List, Option, map, ap, ◌∙◌}
 use Rattle.std.specs.Prelude.{filter, reverse, is_none}
 use Rattle.blob_words.specs.declared.status.Status.{Status}
 use Rattle.answer_text.specs.declared.answer.Answer.{Answer}
-use Rattle.blob_model.specs.Builds.{Build, builds}
+use Rattle.blob_model.specs.Builds.{Build}
 use Rattle.blob_model.specs.Standing.{is_unfinished}
 use Rattle.blob_model.specs.Live.{live, is_live}
 use Rattle.blob_model.specs.Order.{named}

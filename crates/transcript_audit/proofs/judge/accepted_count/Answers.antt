@@ -1,7 +1,6 @@
 -- A segment, or another line.
-use Rattle.std.proofs.Common.{◌≡◌, None, sym, ap, subst, ◌∙◌}
+use Rattle.std.proofs.Common.{sym, ap, subst, ◌∙◌}
 use Rattle.session_script.specs.declared.event.Event.{Event}
-use Rattle.session_script.specs.declared.event.Event.TheVariants as events
 use Rattle.blob_model.specs.Refusals.{refusal}
 use Rattle.transcript_audit.specs.OwnTests.{OwnFound}
 use Rattle.transcript_audit.proofs.OwnFronts.{plain_count}

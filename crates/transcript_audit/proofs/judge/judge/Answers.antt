@@ -1,5 +1,5 @@
 -- With own answers the rest decides, without there is none.
-use Rattle.std.proofs.Common.{◌≡◌, ℕ, List, Option, None, Some, sym, ap, subst, ◌∙◌}
+use Rattle.std.proofs.Common.{ℕ, List, Option, subst}
 use Rattle.answer_text.specs.declared.answer.Answer.{Answer}
 use Rattle.transcript_audit.specs.OwnTests.{OwnFound}
 use Rattle.transcript_audit.proofs.Judging.{no_own}

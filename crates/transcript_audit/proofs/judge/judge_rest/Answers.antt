@@ -1,6 +1,5 @@
 -- What is owed and the tally decide.
-use Rattle.std.proofs.Common.{◌≡◌, ℕ, ◌≤◌, Bool, true, false, List, Some, length, take, drop, sym, ap, subst, ◌∙◌, arith}
-use Rattle.blob_words.specs.declared.tally.Tally.{Tally}
+use Rattle.std.proofs.Common.{◌≡◌, ℕ, ◌≤◌, false, List, length, take, drop, sym, ap, subst, ◌∙◌, arith}
 use Rattle.session_script.specs.declared.event.Event.{Event}
 use Rattle.answer_text.specs.declared.answer.Answer.{Answer}
 use Rattle.blob_model.specs.History.{History, said_all, after}
@@ -8,11 +7,10 @@ use Rattle.blob_model.specs.Session.{page_limit}
 use Rattle.blob_model.specs.Tally.{tally}
 use Rattle.blob_model.specs.Refusals.{refusal}
 use Rattle.blob_model.specs.Settle.{settle}
-use Rattle.blob_model.specs.Legal.{left_files, IsLegalGroup}
+use Rattle.blob_model.specs.Legal.{left_files}
 use Rattle.blob_model.proofs.Lists.{false_true}
-use Rattle.history_notions.specs.declared.course.Course.{Course}
 use Rattle.history_notions.specs.FollowsCourse.{FollowsCourse}
-use Rattle.transcript_audit.specs.Tests.{same_answers, same_tally}
+use Rattle.transcript_audit.specs.Tests.{same_answers}
 use Rattle.transcript_audit.proofs.OwnFronts.{own_some}
 use Rattle.transcript_audit.proofs.Judging.{other_owed, legal_where, whole_after, judged_by, same-sound, same-whole, tally-sound, tally-whole}
 use Rattle.transcript_audit.proofs.judge.judge_rest.Goals as goal

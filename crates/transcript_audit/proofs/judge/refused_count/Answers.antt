@@ -1,5 +1,5 @@
 -- The refusal alone.
-use Rattle.std.proofs.Common.{◌≡◌, ℕ, ◌≤◌, Bool, List, Option, None, Some, length, sym, ap, subst, ◌∙◌, arith, if◌then◌else◌}
+use Rattle.std.proofs.Common.{ℕ, ◌≤◌, Bool, List, Option, None, Some, length, sym, ap, subst, ◌∙◌, arith, if◌then◌else◌}
 use Rattle.answer_text.specs.declared.answer.Answer.{Answer}
 use Rattle.transcript_audit.specs.OwnTests.{OwnFound}
 use Rattle.transcript_audit.proofs.OwnFronts.{take_one, found_refused, found_empty}

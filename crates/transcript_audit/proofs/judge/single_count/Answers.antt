@@ -1,5 +1,5 @@
 -- The one own answer.
-use Rattle.std.proofs.Common.{◌≡◌, ℕ, ◌≤◌, Bool, List, Option, None, Some, length, sym, subst, ◌∙◌, arith, if◌then◌else◌}
+use Rattle.std.proofs.Common.{ℕ, ◌≤◌, List, Option, length, sym, subst, arith}
 use Rattle.answer_text.specs.declared.answer.Answer.{Answer}
 use Rattle.transcript_audit.specs.OwnTests.{OwnFound}
 use Rattle.transcript_audit.proofs.OwnFronts.{take_one, found_single, found_empty}

@@ -1,5 +1,5 @@
 -- The two own answers.
-use Rattle.std.proofs.Common.{◌≡◌, ℕ, ◌≤◌, Bool, List, Option, None, Some, length, sym, subst, ◌∙◌, arith, if◌then◌else◌}
+use Rattle.std.proofs.Common.{ℕ, ◌≤◌, List, Option, length, sym, subst, arith}
 use Rattle.session_script.specs.declared.event.Event.TheVariants as events
 use Rattle.answer_text.specs.declared.answer.Answer.{Answer}
 use Rattle.transcript_audit.specs.OwnTests.{OwnFound}

@@ -1,9 +1,8 @@
 -- An accepted build.
-use Rattle.std.proofs.Common.{◌≡◌, ◌&&◌, Bool, true, false, Option, Some, None, refl, sym, ap, ◌∙◌}
+use Rattle.std.proofs.Common.{◌≡◌, ◌&&◌, Bool, false, Option, Some, None, refl, sym, ap, ◌∙◌}
 use Rattle.std.specs.Prelude.{is_none, is_some}
 use Rattle.session_script.specs.declared.event.Event.{Event}
 use Rattle.session_script.specs.declared.event.Event.TheVariants as events
-use Rattle.session_script.specs.declared.event.Part.{Part}
 use Rattle.answer_text.specs.declared.refusal.Refusal.{Refusal}
 use Rattle.blob_model.specs.Refusals.{refusal}
 use Rattle.blob_model.proofs.Lists.{false_true}

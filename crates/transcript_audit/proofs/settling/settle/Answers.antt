@@ -1,10 +1,9 @@
 -- The seven lists, each after the answers of those before it.
-use Rattle.std.proofs.Common.{◌≡◌, ℕ, ◌++◌, List, [], subst, sym, ap, ◌∙◌}
+use Rattle.std.proofs.Common.{◌≡◌, ℕ, ◌++◌, List, subst, sym, ap, ◌∙◌}
 use Rattle.std.specs.Option.{option_to_list}
 use Rattle.answer_text.specs.declared.answer.Answer.{Answer}
 use Rattle.blob_model.specs.History.{History, said_all}
 use Rattle.blob_model.specs.Settle.{drops, endings, removals, grants, page_jobs, compactions, settle}
-use Rattle.history_notions.specs.declared.course.Course.{Course}
 use Rattle.history_notions.specs.FollowsCourse.{FollowsCourse}
 use Rattle.transcript_audit.proofs.Passes.{said_seven, seven}
 use Rattle.transcript_audit.proofs.settling.settle.Goals as goal

@@ -1,5 +1,5 @@
 -- The file of the first cell that fails.
-use Rattle.std.proofs.Common.{◌≡◌, ℕ, ◌||◌, Bool, true, List, Option, map, sym, ap, ◌∙◌}
+use Rattle.std.proofs.Common.{◌≡◌, ℕ, ◌||◌, Bool, true, List, Option, sym, ap, ◌∙◌}
 use Rattle.answer_text.specs.declared.answer.Answer.TheVariants as answers
 use Rattle.blob_model.specs.Builds.{Cell}
 use Rattle.blob_model.specs.Chunk.{fails, file_of, before_failing}

@@ -1,5 +1,5 @@
 -- The bytes that are given agree with the history's cells.
-use Rattle.std.proofs.Common.{◌≡◌, ℕ, ◌==◌, ◌&&◌, Bool, List, map, sym, ap, ◌∙◌}
+use Rattle.std.proofs.Common.{◌≡◌, ◌==◌, ◌&&◌, Bool, List, map, sym, ap, ◌∙◌}
 use Rattle.answer_text.specs.declared.answer.Answer.{Answer}
 use Rattle.blob_model.specs.Builds.{Cell}
 use Rattle.blob_model.specs.Value.{agree}

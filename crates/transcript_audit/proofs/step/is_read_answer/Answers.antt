@@ -1,5 +1,5 @@
 -- The first cell that fails, where one does.
-use Rattle.std.proofs.Common.{◌≡◌, ℕ, not, List, Option, None, Some, take, map, length, sym, ap, ◌∙◌, arith}
+use Rattle.std.proofs.Common.{◌≡◌, ℕ, not, List, Some, map, sym, ap, ◌∙◌, arith}
 use Rattle.std.specs.Prelude.{find, take_while, slice_get}
 use Rattle.std.specs.Option.{option_map}
 use Rattle.std.proofs.lemmas.List.{length-map}

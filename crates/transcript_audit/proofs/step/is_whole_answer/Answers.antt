@@ -1,5 +1,5 @@
 -- No cell fails.
-use Rattle.std.proofs.Common.{◌≡◌, ◌||◌, Bool, List, Option, map, sym, ap, ◌∙◌}
+use Rattle.std.proofs.Common.{◌||◌, Bool, List, Option, map, sym, ap, ◌∙◌}
 use Rattle.blob_model.specs.Builds.{Cell}
 use Rattle.transcript_audit.specs.Cells.{cell_of}
 use Rattle.transcript_audit.specs.OwnTests.{is_given, is_read}

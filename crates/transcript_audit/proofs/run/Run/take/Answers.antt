@@ -1,5 +1,5 @@
 -- The line is taken, and the session ends with an accepted `end` line.
-use Rattle.std.proofs.Common.{◌≡◌, ◌||◌, Bool, List, sym, ap, subst, ◌∙◌}
+use Rattle.std.proofs.Common.{◌||◌, Bool, List, sym, ap, subst, ◌∙◌}
 use Rattle.session_script.specs.declared.event.Event.{Event}
 use Rattle.answer_text.specs.declared.answer.Answer.{Answer}
 use Rattle.blob_model.specs.History.{after}
