@@ -1,6 +1,7 @@
 mod Decided
 mod Passes
 mod Turned
+mod Idle
 mod OwnTests
 mod OwnCount
 mod Judging
