@@ -7,7 +7,8 @@ use Rattle.transcript_audit.proofs.OwnFronts.{take_two, found_pair, found_few_pa
 use Rattle.transcript_audit.proofs.judge.stored_count.Goals as goal
 
 pub returns-then-answers-lt2 : goal.returns-then-answers-lt2
-returns-then-answers-lt2 c = λ s h r bytes follows accepts filed. found_few_pair s h r c.args.b c.args.segment bytes c.args.answers.now accepts filed c.if-answers-lt2.true
+returns-then-answers-lt2 c = λ s h r bytes follows accepts filed.
+    found_few_pair s h r c.args.b c.args.segment bytes c.args.answers.now accepts filed c.if-answers-lt2.true
 
 pub returns : goal.returns
 returns c = λ s h r bytes follows accepts filed.
