@@ -79,3 +79,4 @@ pub mod Ungranted
 pub mod NewRows
 pub mod NewPieces
 pub mod NewBlobs
+pub mod RangesHeld
