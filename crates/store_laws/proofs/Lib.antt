@@ -80,3 +80,4 @@ pub mod NewRows
 pub mod NewPieces
 pub mod NewBlobs
 pub mod RangesHeld
+pub mod LineStands
