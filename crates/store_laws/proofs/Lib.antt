@@ -81,3 +81,5 @@ pub mod NewPieces
 pub mod NewBlobs
 pub mod RangesHeld
 pub mod LineStands
+pub mod BuildLines
+pub mod SliceLines
