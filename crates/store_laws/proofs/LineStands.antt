@@ -65,7 +65,7 @@ none_first {X} (case ∷ cases) none =
     ap (λ (b : Bool). first_that ((b, case.1) ∷ cases)) none.0 ∙ none_first cases none.1
 
 -- nothing comes where nothing changes
-same_added : (all : List Piece) (facts : Facts) (count : ℕ) (shares : List (Option Share)) → AreOnePerPiece shares → AreAdded all facts count shares shares
+pub same_added : (all : List Piece) (facts : Facts) (count : ℕ) (shares : List (Option Share)) → AreOnePerPiece shares → AreAdded all facts count shares shares
 same_added all facts count shares apart = record { kept = λ slot. kept slot (item_at shares slot) refl; added = λ slot none. none_added slot none; apart = apart }
   where
     kept : (slot : ℕ) (found : Option Item) → item_at shares slot ≡ found → IfSome found (λ (item : Item). item_at shares slot ≡ Some item)

@@ -108,6 +108,15 @@ module _ (s : Session) (groups : List Group) (legal : IsLegalFrom s start groups
       subst (λ (each : Plan). FitsParts s line each) (plan_so s groups legal event renderer name kind line parts told table there stands refl plan planned)
       (subst (λ (each : List Part). FitsParts s each (plan_for s h each)) (sym slice_is) (slice_fits s h source from to))
 
+  -- the items that are to come are new ones of the history with the line
+  pub slice_items : 0 < page_limit s → (plan : Plan) → line_status_in parts table renderer.0 name line ≡ None → plan_in parts line ≡ plan
+      → AllByRecursion (IsNew (pieces (page_limit s) later) (facts_of s later) first) (range_items line ++ own_items (page_limit s) first plan line)
+  slice_items sized plan fine planned =
+      items_new s groups legal event renderer name kind line slice_adds sized
+      (status_so s groups legal event renderer name kind line parts told table there stands refl None fine) plan
+      (plan_so s groups legal event renderer name kind line parts told table there stands refl plan planned) (slice_fitting plan planned)
+      (listed_are_there s groups legal)
+
   module _ (renderers : Table) (handed : ChangesCount (λ (count : ℕ). count + 1) renderer.0 name parts.renderers renderers) (used : ℕ) where
     slice_tables : TablesStand s later renderers parts.urls parts.files parts.readers
     slice_tables =
