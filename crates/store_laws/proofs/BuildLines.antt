@@ -1,19 +1,14 @@
 -- The parts stand for the history with an accepted `build` line.
-use Rattle.std.proofs.Common.{◌≡◌, ℕ, ◌+◌, ◌<◌, not, Bool, true, false, List, [], ◌∷◌, ◌++◌, length, map, refl, ap, subst, sym, ◌∙◌, Option, Some, None, ℤ}
-use Rattle.std.specs.Prelude.{fold, is_some, sum_by}
-use Rattle.std.specs.Option.{option_map_or}
+use Rattle.std.proofs.Common.{◌≡◌, ℕ, ◌+◌, ◌<◌, true, false, List, [], ◌∷◌, ◌++◌, length, map, subst, sym, ◌∙◌, Option, Some, None}
+use Rattle.std.specs.Prelude.{fold, sum_by}
 use Rattle.std.specs.List.{AllByRecursion}
-use Rattle.std.proofs.lemmas.Bool.{ltb-true}
 use Rattle.blob_words.specs.declared.number.RendererId.{RendererId}
 use Rattle.blob_words.specs.declared.plan.Plan.{Plan}
 use Rattle.blob_words.specs.declared.status.Status.{Status}
 use Rattle.session_script.specs.declared.event.Event.{Event}
 use Rattle.session_script.specs.declared.event.Event.TheVariants as events
 use Rattle.session_script.specs.declared.event.Part.{Part}
-use Rattle.session_script.specs.declared.event.Part.TheVariants.{BlobRange}
 use Rattle.answer_text.specs.declared.group.Group.{Group}
-use Rattle.blob_entries.specs.Book.{entry_of}
-use Rattle.blob_entries.specs.declared.entry.Entry.{Entry}
 use Rattle.blob_items.specs.declared.view.View.{View}
 use Rattle.data_handles.specs.Table.{Table as HandleTable}
 use Rattle.item_shares.specs.declared.item.Item.{Item}
@@ -21,24 +16,19 @@ use Rattle.item_shares.specs.declared.shares.Share.{Share}
 use Rattle.item_shares.specs.Weights.{weights}
 use Rattle.page_disk.specs.declared.change.Change.{Change}
 use Rattle.renderer_table.specs.Counted.{ChangesCount}
-use Rattle.renderer_table.specs.Table.{count_of, Table}
-use Rattle.slice_rule.specs.Range.{slice_of}
-use Rattle.blob_model.specs.Builds.{Build, builds, size_in, slice_parts}
-use Rattle.blob_model.specs.Construct.{build_answer, plan_for}
-use Rattle.blob_model.specs.Handles.{has_handle}
+use Rattle.renderer_table.specs.Table.{Table}
+use Rattle.blob_model.specs.Builds.{Build}
+use Rattle.blob_model.specs.Construct.{build_answer}
 use Rattle.blob_model.specs.History.{History, heard, history_from, start}
 use Rattle.blob_model.specs.Legal.{IsLegalFrom}
-use Rattle.blob_model.specs.Live.{is_live}
 use Rattle.blob_model.specs.Pieces.{pieces}
 use Rattle.blob_model.specs.Refusals.{refusal}
 use Rattle.blob_model.specs.Session.{Session, page_limit}
-use Rattle.blob_model.proofs.Lists.{not_false}
 use Rattle.blob_model.proofs.builds.Plans.{FitsParts}
-use Rattle.blob_model.proofs.kept.NewBlobs.{tests_fail}
 use Rattle.store_laws.specs.Arrivals.{coming_with, lengths_by, planned_entry}
 use Rattle.store_laws.specs.BuildLaws.{grown_parts, made, Adds, AreAdded, IsNew}
-use Rattle.store_laws.specs.Claiming.{claimed_by, AreFree}
-use Rattle.store_laws.specs.Deciding.{build_refusal_in, line_status_in, line_weight_in, plan_in, size_under, slice_line, slice_refusal_in}
+use Rattle.store_laws.specs.Claiming.{claimed_by}
+use Rattle.store_laws.specs.Deciding.{build_refusal_in, line_status_in, line_weight_in, plan_in}
 use Rattle.store_laws.specs.DecidingLaws.{AreHeldThere}
 use Rattle.store_laws.specs.EntryLaws.{broken_entry, coming_row, settled_row, AreBrought}
 use Rattle.store_laws.specs.LineLaws.{counted}
@@ -48,14 +38,12 @@ use Rattle.store_laws.specs.Stands.{stood, Between, Parts, Stands}
 use Rattle.store_laws.specs.Tables.{TablesStand}
 use Rattle.store_laws.specs.Uses.{facts_of}
 use Rattle.store_laws.proofs.Building.{builds_add, listed_are_there}
-use Rattle.store_laws.proofs.BuiltStands.{stood_by_build, stood_by_slice}
-use Rattle.store_laws.proofs.BuiltTables.{fresh_by_build, fresh_by_slice, none_held, tables_by_build, tables_by_slice}
+use Rattle.store_laws.proofs.BuiltStands.{stood_by_build}
+use Rattle.store_laws.proofs.BuiltTables.{fresh_by_build, none_held, tables_by_build}
 use Rattle.store_laws.proofs.Claiming.{free_accepted}
 use Rattle.store_laws.proofs.Decided.{builds_decided}
-use Rattle.store_laws.proofs.Deciding.{holds_known}
 use Rattle.store_laws.proofs.LineStands.{broken_grows, plan_so, planned_grows, slots_silent, status_so}
-use Rattle.store_laws.proofs.NewBlobs.{build_fits, items_new, slice_fits}
-use Rattle.store_laws.proofs.Telling.{size_told}
+use Rattle.store_laws.proofs.NewBlobs.{build_fits, items_new}
 
 module _ (s : Session) (groups : List Group) (legal : IsLegalFrom s start groups) (renderer : RendererId) (name : ℕ) (kind : List ℕ) (line : List Part)
     (parts : Parts) (told : Option (List Change)) (table : HandleTable) (there : AreHeldThere parts)

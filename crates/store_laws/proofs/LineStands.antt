@@ -8,11 +8,9 @@ use Rattle.blob_words.specs.declared.status.Status.{Status}
 use Rattle.session_script.specs.declared.event.Event.{Event}
 use Rattle.session_script.specs.declared.event.Event.TheVariants as events
 use Rattle.session_script.specs.declared.event.Part.{Part}
-use Rattle.answer_text.specs.declared.answer.Answer.{Answer}
 use Rattle.answer_text.specs.declared.answer.Answer.TheVariants as answers
 use Rattle.answer_text.specs.declared.group.Group.{Group}
 use Rattle.answer_text.specs.declared.refusal.Refusal.{Refusal}
-use Rattle.blob_entries.specs.declared.entry.Entry.{Entry}
 use Rattle.blob_items.specs.declared.view.View.{View}
 use Rattle.data_handles.specs.Table.{Table as HandleTable}
 use Rattle.item_shares.specs.declared.item.Item.{Item}
@@ -32,25 +30,23 @@ use Rattle.blob_model.specs.Parts.{claims}
 use Rattle.blob_model.specs.Pieces.{Piece, pieces}
 use Rattle.blob_model.specs.Refusals.{claimed, refusal, slot_refusals}
 use Rattle.blob_model.specs.Session.{Session, page_limit}
-use Rattle.blob_model.proofs.Lists.{false_true}
 use Rattle.blob_model.proofs.builds.Plans.{FitsParts}
 use Rattle.blob_model.proofs.kept.NewBlobs.{tests_fail}
 use Rattle.store_laws.specs.Arrivals.{coming_with, lengths_by, planned_entry}
-use Rattle.store_laws.specs.BuildLaws.{grown_parts, made, Adds, AreAdded, IsEntered, IsNew}
-use Rattle.store_laws.specs.BuiltStands.{with_name, Came}
+use Rattle.store_laws.specs.BuildLaws.{grown_parts, made, Adds, AreAdded, IsNew}
+use Rattle.store_laws.specs.BuiltStands.{with_name}
 use Rattle.store_laws.specs.Claiming.{claimed_by, AreFree}
-use Rattle.store_laws.specs.Deciding.{build_refusal_in, line_status_in, line_weight_in, plan_in}
+use Rattle.store_laws.specs.Deciding.{line_status_in, line_weight_in, plan_in}
 use Rattle.store_laws.specs.DecidingLaws.{AreHeldThere}
 use Rattle.store_laws.specs.EntryLaws.{broken_entry, coming_row, settled_row, AreBrought}
 use Rattle.store_laws.specs.Items.{AreOnePerPiece, Facts}
 use Rattle.store_laws.specs.LineLaws.{counted}
 use Rattle.store_laws.specs.NewItems.{own_items, range_items}
 use Rattle.store_laws.specs.PartLaws.{AreRanges}
-use Rattle.store_laws.specs.Rows.{Row}
-use Rattle.store_laws.specs.Stands.{lines, Between, Parts, Stands}
-use Rattle.store_laws.specs.Tables.{DiskStands, TablesStand}
+use Rattle.store_laws.specs.Stands.{Between, Parts, Stands}
+use Rattle.store_laws.specs.Tables.{TablesStand}
 use Rattle.store_laws.specs.Uses.{facts_of}
-use Rattle.store_laws.proofs.BuiltStands.{grows_by, stood_by_build, stood_by_slice}
+use Rattle.store_laws.proofs.BuiltStands.{grows_by}
 use Rattle.store_laws.proofs.BuiltTables.{disk_built}
 use Rattle.store_laws.proofs.Decided.{builds_decided}
 use Rattle.store_laws.proofs.NewBlobs.{planned_now}

@@ -1,5 +1,5 @@
 -- The parts stand for the history with an accepted `slice` line, whose one part the parts tell.
-use Rattle.std.proofs.Common.{◌≡◌, ℕ, ◌+◌, ◌<◌, not, Bool, true, false, List, [], ◌∷◌, ◌++◌, length, map, refl, ap, subst, sym, ◌∙◌, Option, Some, None, ℤ}
+use Rattle.std.proofs.Common.{◌≡◌, ℕ, ◌+◌, ◌<◌, true, false, List, [], ◌∷◌, ◌++◌, length, map, refl, ap, subst, sym, ◌∙◌, Option, Some, None, ℤ}
 use Rattle.std.specs.Prelude.{fold, is_some, sum_by}
 use Rattle.std.specs.Option.{option_map_or}
 use Rattle.std.specs.List.{AllByRecursion}
@@ -37,8 +37,8 @@ use Rattle.blob_model.proofs.builds.Plans.{FitsParts}
 use Rattle.blob_model.proofs.kept.NewBlobs.{tests_fail}
 use Rattle.store_laws.specs.Arrivals.{coming_with, lengths_by, planned_entry}
 use Rattle.store_laws.specs.BuildLaws.{grown_parts, made, Adds, AreAdded, IsNew}
-use Rattle.store_laws.specs.Claiming.{claimed_by, AreFree}
-use Rattle.store_laws.specs.Deciding.{build_refusal_in, line_status_in, line_weight_in, plan_in, size_under, slice_line, slice_refusal_in}
+use Rattle.store_laws.specs.Claiming.{claimed_by}
+use Rattle.store_laws.specs.Deciding.{line_status_in, line_weight_in, plan_in, slice_line, slice_refusal_in}
 use Rattle.store_laws.specs.DecidingLaws.{AreHeldThere}
 use Rattle.store_laws.specs.EntryLaws.{broken_entry, coming_row, settled_row, AreBrought}
 use Rattle.store_laws.specs.LineLaws.{counted}
@@ -48,13 +48,12 @@ use Rattle.store_laws.specs.Stands.{stood, Between, Parts, Stands}
 use Rattle.store_laws.specs.Tables.{TablesStand}
 use Rattle.store_laws.specs.Uses.{facts_of}
 use Rattle.store_laws.proofs.Building.{builds_add, listed_are_there}
-use Rattle.store_laws.proofs.BuiltStands.{stood_by_build, stood_by_slice}
-use Rattle.store_laws.proofs.BuiltTables.{fresh_by_build, fresh_by_slice, none_held, tables_by_build, tables_by_slice}
-use Rattle.store_laws.proofs.Claiming.{free_accepted}
+use Rattle.store_laws.proofs.BuiltStands.{stood_by_slice}
+use Rattle.store_laws.proofs.BuiltTables.{fresh_by_slice, none_held, tables_by_slice}
 use Rattle.store_laws.proofs.Decided.{builds_decided}
 use Rattle.store_laws.proofs.Deciding.{holds_known}
-use Rattle.store_laws.proofs.LineStands.{broken_grows, plan_so, planned_grows, slots_silent, status_so}
-use Rattle.store_laws.proofs.NewBlobs.{build_fits, items_new, slice_fits}
+use Rattle.store_laws.proofs.LineStands.{broken_grows, plan_so, planned_grows, status_so}
+use Rattle.store_laws.proofs.NewBlobs.{items_new, slice_fits}
 use Rattle.store_laws.proofs.Telling.{size_told}
 
 module _ (s : Session) (groups : List Group) (legal : IsLegalFrom s start groups) (renderer : RendererId) (name source : ℕ) (from to : Option ℤ)
