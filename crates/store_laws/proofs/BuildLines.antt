@@ -1,5 +1,5 @@
 -- The parts stand for the history with an accepted `build` line.
-use Rattle.std.proofs.Common.{◌≡◌, ℕ, ◌+◌, ◌<◌, true, false, List, [], ◌∷◌, ◌++◌, length, map, subst, sym, ◌∙◌, Option, Some, None}
+use Rattle.std.proofs.Common.{◌≡◌, ℕ, ◌+◌, ◌<◌, true, false, List, [], ◌∷◌, ◌++◌, length, subst, sym, ◌∙◌, Option, Some, None}
 use Rattle.std.specs.Prelude.{fold, sum_by}
 use Rattle.std.specs.List.{AllByRecursion}
 use Rattle.blob_words.specs.declared.number.RendererId.{RendererId}
@@ -25,13 +25,13 @@ use Rattle.blob_model.specs.Pieces.{pieces}
 use Rattle.blob_model.specs.Refusals.{refusal}
 use Rattle.blob_model.specs.Session.{Session, page_limit}
 use Rattle.blob_model.proofs.builds.Plans.{FitsParts}
-use Rattle.store_laws.specs.Arrivals.{coming_with, lengths_by, planned_entry}
-use Rattle.store_laws.specs.BuildLaws.{grown_parts, made, Adds, AreAdded, IsNew}
+use Rattle.store_laws.specs.Arrivals.{lengths_by}
+use Rattle.store_laws.specs.BuildLaws.{made, Adds, AreAdded, IsNew}
+use Rattle.store_laws.specs.BuiltStands.{broken_parts, planned_parts}
 use Rattle.store_laws.specs.Claiming.{claimed_by}
-use Rattle.store_laws.specs.Deciding.{build_refusal_in, line_status_in, line_weight_in, plan_in}
+use Rattle.store_laws.specs.Deciding.{build_refusal_in, line_status_in, plan_in}
 use Rattle.store_laws.specs.DecidingLaws.{AreHeldThere}
-use Rattle.store_laws.specs.EntryLaws.{broken_entry, coming_row, settled_row, AreBrought}
-use Rattle.store_laws.specs.LineLaws.{counted}
+use Rattle.store_laws.specs.EntryLaws.{AreBrought}
 use Rattle.store_laws.specs.NewItems.{own_items, range_items}
 use Rattle.store_laws.specs.PartLaws.{AreRanges}
 use Rattle.store_laws.specs.Stands.{stood, Between, Parts, Stands}
@@ -94,11 +94,11 @@ module _ (s : Session) (groups : List Group) (legal : IsLegalFrom s start groups
 
     pub build_breaks : (why : Status) → line_status_in parts table renderer.0 name line ≡ Some why
         → Between s later (stood (page_limit s) h event (build_answer s h renderer.0 name line ∷ []))
-        (counted (grown_parts s later new (broken_entry renderer kind why) (settled_row None 0 first line) parts.shares renderers used parts)) told
+        (broken_parts s h later renderer name kind line why renderers used parts) told
         (fold (claimed_by true) table line)
     build_breaks why broke =
         stood_by_build s h later renderer name kind line
-        (counted (grown_parts s later new (broken_entry renderer kind why) (settled_row None 0 first line) parts.shares renderers used parts)) told
+        (broken_parts s h later renderer name kind line why renderers used parts) told
         (fold (claimed_by true) table line)
         (broken_grows s groups legal event renderer name kind line parts told table there stands (slots_silent s h renderer name kind line build_passes)
         build_adds renderers build_tables handed used why broke (free_accepted true parts table renderer name line accepted))
@@ -109,13 +109,11 @@ module _ (s : Session) (groups : List Group) (legal : IsLegalFrom s start groups
         → ((weight : Item → ℕ) → weights weight now ≡ weights weight parts.shares + sum_by weight (range_items line
         ++ own_items (page_limit s) first plan line))
         → Between s later (stood (page_limit s) h event (build_answer s h renderer.0 name line ∷ []))
-        (counted (grown_parts s later new (planned_entry renderer kind plan line (page_limit s) first views own)
-        (coming_row (Some plan) (line_weight_in parts line) first line (coming_with plan (map (λ (view : View). view.slot) own))) now renderers used parts)) told
+        (planned_parts s h later renderer name kind line plan views own now renderers used parts) told
         (fold (claimed_by false) table line)
     build_comes sized plan fine planned now views own added ranges brought weighs =
         stood_by_build s h later renderer name kind line
-        (counted (grown_parts s later new (planned_entry renderer kind plan line (page_limit s) first views own)
-        (coming_row (Some plan) (line_weight_in parts line) first line (coming_with plan (map (λ (view : View). view.slot) own))) now renderers used parts)) told
+        (planned_parts s h later renderer name kind line plan views own now renderers used parts) told
         (fold (claimed_by false) table line)
         (planned_grows s groups legal event renderer name kind line parts told table there stands (slots_silent s h renderer name kind line build_passes)
         build_adds renderers build_tables handed used sized plan fine planned (build_fitting plan fine planned)

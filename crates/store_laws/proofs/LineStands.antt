@@ -33,14 +33,13 @@ use Rattle.blob_model.specs.Session.{Session, page_limit}
 use Rattle.blob_model.proofs.builds.Plans.{FitsParts}
 use Rattle.blob_model.proofs.kept.NewBlobs.{tests_fail}
 use Rattle.store_laws.specs.Arrivals.{coming_with, lengths_by, planned_entry}
-use Rattle.store_laws.specs.BuildLaws.{grown_parts, made, Adds, AreAdded, IsNew}
-use Rattle.store_laws.specs.BuiltStands.{with_name}
+use Rattle.store_laws.specs.BuildLaws.{made, Adds, AreAdded, IsNew}
+use Rattle.store_laws.specs.BuiltStands.{broken_parts, planned_parts, with_name}
 use Rattle.store_laws.specs.Claiming.{claimed_by, AreFree}
 use Rattle.store_laws.specs.Deciding.{line_status_in, line_weight_in, plan_in}
 use Rattle.store_laws.specs.DecidingLaws.{AreHeldThere}
 use Rattle.store_laws.specs.EntryLaws.{broken_entry, coming_row, settled_row, AreBrought}
 use Rattle.store_laws.specs.Items.{AreOnePerPiece, Facts}
-use Rattle.store_laws.specs.LineLaws.{counted}
 use Rattle.store_laws.specs.NewItems.{own_items, range_items}
 use Rattle.store_laws.specs.PartLaws.{AreRanges}
 use Rattle.store_laws.specs.Stands.{Between, Parts, Stands}
@@ -62,7 +61,11 @@ none_first {X} (case ∷ cases) none =
 
 -- nothing comes where nothing changes
 pub same_added : (all : List Piece) (facts : Facts) (count : ℕ) (shares : List (Option Share)) → AreOnePerPiece shares → AreAdded all facts count shares shares
-same_added all facts count shares apart = record { kept = λ slot. kept slot (item_at shares slot) refl; added = λ slot none. none_added slot none; apart = apart }
+same_added all facts count shares apart = record {
+  kept = λ slot. kept slot (item_at shares slot) refl;
+  added = λ slot none. none_added slot none;
+  apart = apart;
+}
   where
     kept : (slot : ℕ) (found : Option Item) → item_at shares slot ≡ found → IfSome found (λ (item : Item). item_at shares slot ≡ Some item)
     kept slot None at = tt
@@ -116,7 +119,7 @@ module _ (s : Session) (groups : List Group) (legal : IsLegalFrom s start groups
     -- the blob breaks at its line: no item comes
     pub broken_grows : (why : Status) → line_status_in parts table renderer.0 name line ≡ Some why → AreFree true table line
         → Between s later (with_name name (is_live (page_limit s) h))
-        (counted (grown_parts s later new (broken_entry renderer kind why) (settled_row None 0 first line) parts.shares renderers used parts)) told
+        (broken_parts s h later renderer name kind line why renderers used parts) told
         (fold (claimed_by true) table line)
     broken_grows why broke free =
         grows_by s groups legal renderer name kind line true (broken_entry renderer kind why) (settled_row None 0 first line) parts.shares renderers used
@@ -137,8 +140,7 @@ module _ (s : Session) (groups : List Group) (legal : IsLegalFrom s start groups
         → ((weight : Item → ℕ) → weights weight now ≡ weights weight parts.shares + sum_by weight (range_items line
         ++ own_items (page_limit s) first plan line))
         → Between s later (with_name name (is_live (page_limit s) h))
-        (counted (grown_parts s later new (planned_entry renderer kind plan line (page_limit s) first views own)
-        (coming_row (Some plan) (line_weight_in parts line) first line (coming_with plan (map (λ (view : View). view.slot) own))) now renderers used parts)) told
+        (planned_parts s h later renderer name kind line plan views own now renderers used parts) told
         (fold (claimed_by false) table line)
     planned_grows sized plan fine planned fits free now views own added ranges brought weighs =
         grows_by s groups legal renderer name kind line false (planned_entry renderer kind plan line (page_limit s) first views own)

@@ -1,5 +1,5 @@
 -- The parts stand for the history with an accepted `slice` line, whose one part the parts tell.
-use Rattle.std.proofs.Common.{◌≡◌, ℕ, ◌+◌, ◌<◌, true, false, List, [], ◌∷◌, ◌++◌, length, map, refl, ap, subst, sym, ◌∙◌, Option, Some, None, ℤ}
+use Rattle.std.proofs.Common.{◌≡◌, ℕ, ◌+◌, ◌<◌, true, false, List, [], ◌∷◌, ◌++◌, length, refl, ap, subst, sym, ◌∙◌, Option, Some, None, ℤ}
 use Rattle.std.specs.Prelude.{fold, is_some, sum_by}
 use Rattle.std.specs.Option.{option_map_or}
 use Rattle.std.specs.List.{AllByRecursion}
@@ -35,13 +35,13 @@ use Rattle.blob_model.specs.Session.{Session, page_limit}
 use Rattle.blob_model.proofs.Lists.{not_false}
 use Rattle.blob_model.proofs.builds.Plans.{FitsParts}
 use Rattle.blob_model.proofs.kept.NewBlobs.{tests_fail}
-use Rattle.store_laws.specs.Arrivals.{coming_with, lengths_by, planned_entry}
-use Rattle.store_laws.specs.BuildLaws.{grown_parts, made, Adds, AreAdded, IsNew}
+use Rattle.store_laws.specs.Arrivals.{lengths_by}
+use Rattle.store_laws.specs.BuildLaws.{made, Adds, AreAdded, IsNew}
+use Rattle.store_laws.specs.BuiltStands.{broken_parts, planned_parts}
 use Rattle.store_laws.specs.Claiming.{claimed_by}
-use Rattle.store_laws.specs.Deciding.{line_status_in, line_weight_in, plan_in, slice_line, slice_refusal_in}
+use Rattle.store_laws.specs.Deciding.{line_status_in, plan_in, slice_line, slice_refusal_in}
 use Rattle.store_laws.specs.DecidingLaws.{AreHeldThere}
-use Rattle.store_laws.specs.EntryLaws.{broken_entry, coming_row, settled_row, AreBrought}
-use Rattle.store_laws.specs.LineLaws.{counted}
+use Rattle.store_laws.specs.EntryLaws.{AreBrought}
 use Rattle.store_laws.specs.NewItems.{own_items, range_items}
 use Rattle.store_laws.specs.PartLaws.{AreRanges}
 use Rattle.store_laws.specs.Stands.{stood, Between, Parts, Stands}
@@ -125,11 +125,11 @@ module _ (s : Session) (groups : List Group) (legal : IsLegalFrom s start groups
 
     pub slice_breaks : (why : Status) → line_status_in parts table renderer.0 name line ≡ Some why
         → Between s later (stood (page_limit s) h event (build_answer s h renderer.0 name line ∷ []))
-        (counted (grown_parts s later new (broken_entry renderer kind why) (settled_row None 0 first line) parts.shares renderers used parts)) told
+        (broken_parts s h later renderer name kind line why renderers used parts) told
         (fold (claimed_by true) table line)
     slice_breaks why broke =
         stood_by_slice s h later renderer name source from to kind line
-        (counted (grown_parts s later new (broken_entry renderer kind why) (settled_row None 0 first line) parts.shares renderers used parts)) told
+        (broken_parts s h later renderer name kind line why renderers used parts) told
         (fold (claimed_by true) table line)
         (broken_grows s groups legal event renderer name kind line parts told table there stands refl
         slice_adds renderers slice_tables handed used why broke (tt, tt))
@@ -140,13 +140,11 @@ module _ (s : Session) (groups : List Group) (legal : IsLegalFrom s start groups
         → ((weight : Item → ℕ) → weights weight now ≡ weights weight parts.shares + sum_by weight (range_items line
         ++ own_items (page_limit s) first plan line))
         → Between s later (stood (page_limit s) h event (build_answer s h renderer.0 name line ∷ []))
-        (counted (grown_parts s later new (planned_entry renderer kind plan line (page_limit s) first views own)
-        (coming_row (Some plan) (line_weight_in parts line) first line (coming_with plan (map (λ (view : View). view.slot) own))) now renderers used parts)) told
+        (planned_parts s h later renderer name kind line plan views own now renderers used parts) told
         (fold (claimed_by false) table line)
     slice_comes sized plan fine planned now views own added ranges brought weighs =
         stood_by_slice s h later renderer name source from to kind line
-        (counted (grown_parts s later new (planned_entry renderer kind plan line (page_limit s) first views own)
-        (coming_row (Some plan) (line_weight_in parts line) first line (coming_with plan (map (λ (view : View). view.slot) own))) now renderers used parts)) told
+        (planned_parts s h later renderer name kind line plan views own now renderers used parts) told
         (fold (claimed_by false) table line)
         (planned_grows s groups legal event renderer name kind line parts told table there stands refl
         slice_adds renderers slice_tables handed used sized plan fine planned (slice_fitting plan planned) (tt, tt) now views own added ranges brought weighs)
