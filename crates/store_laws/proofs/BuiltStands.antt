@@ -38,12 +38,12 @@ module _ (s : Session) (groups : List Group) (legal : IsLegalFrom s start groups
   abbrev h : History
   h = history_from start groups
 
-  by_parts : (later : History) → Adds s h later (made s h renderer name kind line) → lines later ≡ lines h + 1
+  pub grows_by : (later : History) → Adds s h later (made s h renderer name kind line) → lines later ≡ lines h + 1
       → TablesStand s later renderers parts.urls parts.files parts.readers → DiskStands s later told
       → Came s h later renderer name kind line is_broken entry row now renderers parts table
       → Between s later (with_name name stands) (counted (grown_parts s later (made s h renderer name kind line) entry row now renderers used parts)) told
       (fold (claimed_by is_broken) table line)
-  by_parts later adds one_line tables disk came =
+  grows_by later adds one_line tables disk came =
       grown_stands s h stands parts told table (none_marked s groups stands parts told table legal between) between (rests_when_settled s groups legal)
       (listed_are_there s groups legal) later (made s h renderer name kind line) adds one_line entry row now came.added came.entered renderers tables
       (fold (claimed_by is_broken) table line)
@@ -59,7 +59,7 @@ module _ (s : Session) (groups : List Group) (legal : IsLegalFrom s start groups
       → Between s build_later (with_name name stands)
       (counted (grown_parts s build_later (made s h renderer name kind line) entry row now renderers used parts)) told (fold (claimed_by is_broken) table line)
   build_grows passes came =
-      by_parts build_later (builds_add.by_build s groups renderer name kind line legal passes) refl
+      grows_by build_later (builds_add.by_build s groups renderer name kind line legal passes) refl
       (tables_by_build s h renderer name (none_held s groups renderer.0 name legal (fresh_by_build s h renderer name kind line passes)) parts.renderers
       renderers parts.urls parts.files parts.readers between.tables came.handed kind line (build_answer s h renderer.0 name line))
       (disk_built s h (events.Build renderer name kind line) renderer.0 name line told between.disk_stands) came
@@ -74,7 +74,7 @@ module _ (s : Session) (groups : List Group) (legal : IsLegalFrom s start groups
         (counted (grown_parts s slice_later (made s h renderer name kind line) entry row now renderers used parts)) told
         (fold (claimed_by is_broken) table line)
     slice_grows passes is came =
-        by_parts slice_later (builds_add.by_slice s groups renderer name source from to kind legal passes line is) refl
+        grows_by slice_later (builds_add.by_slice s groups renderer name source from to kind legal passes line is) refl
         (tables_by_slice s h renderer name
         (none_held s groups renderer.0 name legal (fresh_by_slice s h renderer name source from to kind passes)) parts.renderers
         renderers parts.urls parts.files parts.readers between.tables came.handed source from to kind (build_answer s h renderer.0 name line))

@@ -89,3 +89,7 @@ pub mod Stepping
 pub mod Unread
 pub mod Stepped
 pub mod Using
+pub mod RangesHeld
+pub mod LineStands
+pub mod BuildLines
+pub mod SliceLines
