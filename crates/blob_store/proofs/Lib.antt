@@ -63,3 +63,4 @@ pub mod AddedRecipe
 pub mod AddedEntry
 pub mod AddedWhole
 pub mod SeenGrown
+pub mod SeenEntered
