@@ -66,3 +66,5 @@ pub mod SeenGrown
 pub mod Moving
 pub mod Touching
 pub mod HeardSteps
+pub mod SeenEntered
+pub mod HeardBuilds
