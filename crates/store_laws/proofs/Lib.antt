@@ -83,3 +83,4 @@ pub mod RangesHeld
 pub mod LineStands
 pub mod BuildLines
 pub mod SliceLines
+pub mod LineRead

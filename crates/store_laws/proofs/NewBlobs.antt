@@ -1,5 +1,5 @@
 -- A new blob by the plan that its line answers: its items, its entry and its row.
-use Rattle.std.proofs.Common.{◌≡◌, ℕ, zero, suc, ◌+◌, ◌<◌, ◌≤◌, ◌&&◌, Bool, true, false, List, [], ◌∷◌, ◌++◌, map, length, replicate, refl, ap, subst, sym, ◌∙◌, Option, Some, None, arith, ℤ}
+use Rattle.std.proofs.Common.{◌≡◌, ℕ, zero, suc, ◌+◌, ◌<◌, ◌&&◌, Bool, true, false, List, [], ◌∷◌, ◌++◌, map, length, replicate, refl, ap, subst, sym, ◌∙◌, Option, Some, None, arith, ℤ}
 use Rattle.std.specs.Prelude.{is_none}
 use Rattle.std.specs.List.{AllByRecursion, range_with_len}
 use Rattle.std.proofs.lemmas.Bool.{ltb-false}
@@ -36,14 +36,14 @@ use Rattle.store_laws.specs.BuildLaws.{Adds, AreListed, IsEntered, IsNew, made}
 use Rattle.store_laws.specs.Deciding.{line_weight_in}
 use Rattle.store_laws.specs.DecidingLaws.{AreHeldThere}
 use Rattle.store_laws.specs.EntryLaws.{AreBrought, all_lengths, coming_row}
-use Rattle.store_laws.specs.NewItems.{inline_items, own_items, range_items, reserved_items}
+use Rattle.store_laws.specs.NewItems.{own_items, range_items}
 use Rattle.store_laws.specs.PartLaws.{AreRanges}
 use Rattle.store_laws.specs.Rows.{writing}
 use Rattle.store_laws.specs.Stands.{Parts, Stands}
 use Rattle.store_laws.specs.Uses.{facts_of}
 use Rattle.store_laws.proofs.Entering.{lengths_all}
 use Rattle.store_laws.proofs.NewPieces.{inline_new, none_new, ranges_new, reserved_new, slots_hold}
-use Rattle.store_laws.proofs.NewRows.{made_planned, plan_tells, ready_now, waits_now, writes_now, Tells}
+use Rattle.store_laws.proofs.NewRows.{made_planned, ready_now, waits_now, writes_now}
 
 -- ---- the plan is one that the parts have
 

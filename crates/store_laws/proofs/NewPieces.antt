@@ -1,8 +1,8 @@
 -- The pieces of a new blob: their numbers, and their items by its plan.
-use Rattle.std.proofs.Common.{◌≡◌, ℕ, zero, suc, ◌+◌, ◌<◌, ◌≤◌, ◌==◌, ◌||◌, Bool, true, false, List, [], ◌∷◌, ◌++◌, map, take, drop, length, reverse, sum, sum_by, refl, ap, subst, sym, ◌∙◌, Option, Some, None, cond, arith}
-use Rattle.std.specs.Prelude.{filter, filter_map, find, flat_map, get_or, option_and_then, slice_get, IfSome, IsSome, IsSomeAnd}
+use Rattle.std.proofs.Common.{◌≡◌, ℕ, zero, suc, ◌+◌, ◌<◌, ◌≤◌, ◌==◌, true, false, List, [], ◌∷◌, ◌++◌, map, take, drop, length, reverse, sum, refl, ap, subst, sym, ◌∙◌, Option, Some, None, arith}
+use Rattle.std.specs.Prelude.{filter, filter_map, option_and_then, slice_get, IsSome, IsSomeAnd}
 use Rattle.std.specs.Option.{option_map_or}
-use Rattle.std.specs.List.{AllByRecursion, cons_option, list_any, range_with_len}
+use Rattle.std.specs.List.{AllByRecursion, cons_option, range_with_len}
 use Rattle.std.proofs.lemmas.List.{drop_more, length-drop, length-take-le}
 use Rattle.std.proofs.lemmas.Option.{get_or_from_slice_get}
 use Rattle.blob_words.specs.declared.plan.Plan.{Plan}
@@ -10,7 +10,6 @@ use Rattle.blob_words.specs.declared.plan.Plan.TheVariants as plans
 use Rattle.session_script.specs.declared.event.Part.{Part}
 use Rattle.session_script.specs.declared.event.Part.TheVariants.{Embedded, Asked, FileRange, BlobRange, HandleRange}
 use Rattle.item_shares.specs.declared.item.Item.{Item}
-use Rattle.item_shares.specs.declared.item.Item.TheVariants.{Memory, Paged, Reserved, File, Range}
 use Rattle.item_shares.specs.declared.shares.Share.{Share}
 use Rattle.item_shares.specs.Shares.{item_at}
 use Rattle.blob_items.specs.declared.view.View.{View}
@@ -18,13 +17,11 @@ use Rattle.segment_assembly.specs.Assembly.{bytes_at}
 use Rattle.transport_plan.specs.Spans.{IsEndToEnd, piece_spans}
 use Rattle.transport_plan.proofs.SpanLemmas.{cover_sum, pieces_cover}
 use Rattle.blob_model.specs.Builds.{Build, build_in, builds, sent}
-use Rattle.blob_model.specs.Changes.{piece_bytes}
 use Rattle.blob_model.specs.History.{History}
 use Rattle.blob_model.specs.Order.{named}
-use Rattle.blob_model.specs.Pages.{Page, Place, in_memory, lists, page_with, pages, place, place_by, planned_place, reserved, unlisted_place}
+use Rattle.blob_model.specs.Pages.{Page, in_memory, lists, page_with, pages, place_by, planned_place, reserved}
 use Rattle.blob_model.specs.Parts.{embedded, own_bytes, own_lengths}
 use Rattle.blob_model.specs.Pieces.{Piece, numbered, pieces, pieces_from, planned_spans, spans_of}
-use Rattle.blob_model.specs.Reached.{is_granted_piece}
 use Rattle.blob_model.specs.Session.{Session, page_limit}
 use Rattle.blob_model.specs.Standing.{grants_at_once, is_granted, was_granted}
 use Rattle.blob_model.specs.Transport.{byte_by_plan, sent_byte}
@@ -38,7 +35,7 @@ use Rattle.store_laws.specs.Cells.{piece_in}
 use Rattle.store_laws.specs.EntryLaws.{AreBrought, all_lengths}
 use Rattle.store_laws.specs.Items.{Facts, item_length, piece_at, piece_by, piece_of_item}
 use Rattle.store_laws.specs.NewItems.{inline_items, memory_items, part_items, range_items, reserved_items}
-use Rattle.store_laws.specs.PartLaws.{AreFound, piece_lengths, piece_no}
+use Rattle.store_laws.specs.PartLaws.{AreFound}
 use Rattle.store_laws.specs.Uses.{facts_of, own_pieces}
 use Rattle.store_laws.proofs.Entering.{all_mine, firsts_none, lengths_all, pieces_then}
 

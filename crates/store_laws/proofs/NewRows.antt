@@ -1,6 +1,6 @@
 -- The entry and the row of a new blob, by what its line answers.
-use Rattle.std.proofs.Common.{◌≡◌, ℕ, zero, suc, ◌+◌, ◌-◌, ◌<◌, ◌≤◌, ◌==◌, ◌&&◌, ◌||◌, not, Bool, true, false, List, [], ◌∷◌, map, length, sum, refl, ap, subst, sym, ◌∙◌, Option, Some, None, cond, arith}
-use Rattle.std.specs.Prelude.{IsSomeAnd, is_some, nat_le, nat_lt}
+use Rattle.std.proofs.Common.{◌≡◌, ℕ, zero, suc, ◌+◌, ◌-◌, ◌<◌, ◌==◌, ◌&&◌, not, Bool, true, false, List, [], ◌∷◌, map, length, sum, refl, ap, subst, sym, ◌∙◌, Option, Some, None, cond, arith}
+use Rattle.std.specs.Prelude.{nat_le, nat_lt}
 use Rattle.std.specs.List.{AllByRecursion, list_any, range_with_len}
 use Rattle.std.specs.Int.{div_ceil}
 use Rattle.std.proofs.lemmas.Bool.{and_parts, eq-eqb, eqb-true, or_parts}
@@ -15,9 +15,7 @@ use Rattle.session_script.specs.declared.event.Part.{Part}
 use Rattle.answer_text.specs.declared.group.Group.{Group}
 use Rattle.data_handles.specs.Table.{Table as HandleTable}
 use Rattle.page_disk.specs.declared.change.Change.{Change}
-use Rattle.item_shares.specs.declared.item.Item.{Item}
 use Rattle.item_shares.specs.declared.shares.Share.{Share}
-use Rattle.item_shares.specs.Shares.{item_at}
 use Rattle.blob_items.specs.declared.view.View.{View}
 use Rattle.blob_entries.specs.Statuses.{is_broken}
 use Rattle.transport_plan.specs.Plan.{file_plan, fits_inline, has_file_room, shared_plan}
@@ -47,7 +45,7 @@ use Rattle.store_laws.specs.DecidingLaws.{AreHeldThere}
 use Rattle.store_laws.specs.EntryLaws.{AreBrought, IsReady, all_lengths, broken_entry, coming_row, pending_entry, ready_entry, settled_row}
 use Rattle.store_laws.specs.Items.{piece_at}
 use Rattle.store_laws.specs.PartLaws.{AreRanges}
-use Rattle.store_laws.specs.Rows.{Row, waiting, writing}
+use Rattle.store_laws.specs.Rows.{waiting, writing}
 use Rattle.store_laws.specs.Stands.{Parts, Stands}
 use Rattle.store_laws.specs.Uses.{own_pieces}
 use Rattle.store_laws.proofs.BuildRefusals.{found_sources, weights_known}
@@ -65,13 +63,15 @@ Tells parts plan = Unit {0}
 
 pub plan_tells : (s : Session) (h : History) (parts : List Part) → Tells parts (plan_for s h parts)
 plan_tells s h parts =
-    go (input_bytes (plan_input s h parts) == 0) refl (nat_lt s.limits.memory (input_bytes (plan_input s h parts)) && not (has_file_room (plan_input s h parts)))
+    go (input_bytes (plan_input s h parts) == 0) refl
+    (nat_lt s.limits.memory (input_bytes (plan_input s h parts)) && not (has_file_room (plan_input s h parts)))
     (nat_lt s.limits.big (input_bytes (plan_input s h parts)) && has_file_room (plan_input s h parts)) (fits_inline (plan_input s h parts)) refl
   where
     same : input_bytes (plan_input s h parts) ≡ own_bytes parts
     same = let within = embedded_within parts in omega (arith, within)
 
-    by_file : (b : Bool) (what : Plan) → 0 < own_bytes parts → Tells parts what → Tells parts (cond b what (plans.File (piece_count (page_limit s) (own_lengths parts))))
+    by_file : (b : Bool) (what : Plan) → 0 < own_bytes parts → Tells parts what
+        → Tells parts (cond b what (plans.File (piece_count (page_limit s) (own_lengths parts))))
     by_file true what some tells = tells
     by_file false what some tells = some
 
