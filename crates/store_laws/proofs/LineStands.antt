@@ -1,16 +1,12 @@
 -- The parts stand for the history with a line that builds, as the parts decide it: by the plan, or the status with which the blob breaks.
-use Rattle.std.proofs.Common.{◌≡◌, ℕ, ◌+◌, ◌<◌, Bool, true, false, List, [], ◌∷◌, ◌++◌, length, map, refl, ap, subst, sym, ◌∙◌, Option, Some, None}
+use Rattle.std.proofs.Common.{◌≡◌, ℕ, ◌+◌, ◌<◌, true, false, List, ◌++◌, length, map, refl, subst, sym, ◌∙◌, Option, Some, None}
 use Rattle.std.specs.Prelude.{fold, sum_by, IfSome}
-use Rattle.std.specs.List.{AllByRecursion}
 use Rattle.blob_words.specs.declared.number.RendererId.{RendererId}
 use Rattle.blob_words.specs.declared.plan.Plan.{Plan}
 use Rattle.blob_words.specs.declared.status.Status.{Status}
 use Rattle.session_script.specs.declared.event.Event.{Event}
-use Rattle.session_script.specs.declared.event.Event.TheVariants as events
 use Rattle.session_script.specs.declared.event.Part.{Part}
-use Rattle.answer_text.specs.declared.answer.Answer.TheVariants as answers
 use Rattle.answer_text.specs.declared.group.Group.{Group}
-use Rattle.answer_text.specs.declared.refusal.Refusal.{Refusal}
 use Rattle.blob_items.specs.declared.view.View.{View}
 use Rattle.data_handles.specs.Table.{Table as HandleTable}
 use Rattle.item_shares.specs.declared.item.Item.{Item}
@@ -22,16 +18,15 @@ use Rattle.renderer_table.specs.Counted.{ChangesCount}
 use Rattle.renderer_table.specs.Table.{Table}
 use Rattle.blob_model.specs.Builds.{Build}
 use Rattle.blob_model.specs.Choice.{first_that}
-use Rattle.blob_model.specs.Construct.{build_answer, build_answer_by, line_status, plan_for}
+use Rattle.blob_model.specs.Construct.{build_answer}
 use Rattle.blob_model.specs.History.{History, heard, history_from, start}
 use Rattle.blob_model.specs.Legal.{IsLegalFrom}
 use Rattle.blob_model.specs.Live.{is_live}
 use Rattle.blob_model.specs.Parts.{claims}
 use Rattle.blob_model.specs.Pieces.{Piece, pieces}
-use Rattle.blob_model.specs.Refusals.{claimed, refusal, slot_refusals}
+use Rattle.blob_model.specs.Refusals.{claimed, slot_refusals}
 use Rattle.blob_model.specs.Session.{Session, page_limit}
 use Rattle.blob_model.proofs.builds.Plans.{FitsParts}
-use Rattle.blob_model.proofs.kept.NewBlobs.{tests_fail}
 use Rattle.store_laws.specs.Arrivals.{coming_with, lengths_by, planned_entry}
 use Rattle.store_laws.specs.BuildLaws.{made, Adds, AreAdded, IsNew}
 use Rattle.store_laws.specs.BuiltStands.{broken_parts, planned_parts, with_name}
@@ -47,12 +42,10 @@ use Rattle.store_laws.specs.Tables.{TablesStand}
 use Rattle.store_laws.specs.Uses.{facts_of}
 use Rattle.store_laws.proofs.BuiltStands.{grows_by}
 use Rattle.store_laws.proofs.BuiltTables.{disk_built}
-use Rattle.store_laws.proofs.Decided.{builds_decided}
 use Rattle.store_laws.proofs.LineRead.{plan_read, status_read}
 use Rattle.store_laws.proofs.NewBlobs.{planned_now}
 use Rattle.store_laws.proofs.NewRows.{broken_now}
 use Rattle.store_laws.proofs.RangesHeld.{broken_held, planned_held}
-use Rattle.store_laws.proofs.ViewHas.{append_first}
 
 -- nothing comes where nothing changes
 pub same_added : (all : List Piece) (facts : Facts) (count : ℕ) (shares : List (Option Share)) → AreOnePerPiece shares → AreAdded all facts count shares shares
