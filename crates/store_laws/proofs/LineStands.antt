@@ -90,7 +90,8 @@ module _ (s : Session) (groups : List Group) (legal : IsLegalFrom s start groups
         (is_live (page_limit s) h) parts told table stands.between later adds refl tables
         (disk_built s h event renderer.0 name line told stands.between.disk_stands) (record {
           added = same_added (pieces (page_limit s) later) (facts_of s later) first parts.shares stands.between.contents.items.apart;
-          entered = broken_now s groups legal event renderer name kind line adds parts.shares why (status_read s h parts told table there stands renderer name line silent (Some why) broke);
+          entered = broken_now s groups legal event renderer name kind line adds parts.shares why
+              (status_read s h parts told table there stands renderer name line silent (Some why) broke);
           free = free;
           held = broken_held line parts.shares;
           handed = handed;
@@ -112,8 +113,9 @@ module _ (s : Session) (groups : List Group) (legal : IsLegalFrom s start groups
         (is_live (page_limit s) h) parts told table stands.between later adds refl tables
         (disk_built s h event renderer.0 name line told stands.between.disk_stands) (record {
           added = added;
-          entered = planned_now s groups legal event renderer name kind line adds sized (status_read s h parts told table there stands renderer name line silent None fine) plan (plan_read s h parts told table there stands renderer name line silent ∙ planned) fits parts told table
-              there stands now views own ranges brought;
+          entered = planned_now s groups legal event renderer name kind line adds sized
+              (status_read s h parts told table there stands renderer name line silent None fine) plan
+              (plan_read s h parts told table there stands renderer name line silent ∙ planned) fits parts told table there stands now views own ranges brought;
           free = free;
           held = planned_held (page_limit s) first plan line parts.shares now weighs;
           handed = handed;
