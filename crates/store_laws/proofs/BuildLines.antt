@@ -42,7 +42,8 @@ use Rattle.store_laws.proofs.BuiltStands.{stood_by_build}
 use Rattle.store_laws.proofs.BuiltTables.{fresh_by_build, none_held, tables_by_build}
 use Rattle.store_laws.proofs.Claiming.{free_accepted}
 use Rattle.store_laws.proofs.Decided.{builds_decided}
-use Rattle.store_laws.proofs.LineStands.{broken_grows, plan_so, planned_grows, slots_silent, status_so}
+use Rattle.store_laws.proofs.LineRead.{build_silent, plan_read, status_read}
+use Rattle.store_laws.proofs.LineStands.{broken_grows, planned_grows}
 use Rattle.store_laws.proofs.NewBlobs.{build_fits, items_new}
 
 module _ (s : Session) (groups : List Group) (legal : IsLegalFrom s start groups) (renderer : RendererId) (name : ℕ) (kind : List ℕ) (line : List Part)
@@ -71,19 +72,19 @@ module _ (s : Session) (groups : List Group) (legal : IsLegalFrom s start groups
 
   build_fitting : (plan : Plan) → line_status_in parts table renderer.0 name line ≡ None → plan_in parts line ≡ plan → FitsParts s line plan
   build_fitting plan fine planned =
-      let silent = slots_silent s h renderer name kind line build_passes in
-      subst (λ (each : Plan). FitsParts s line each) (plan_so s groups legal event renderer name kind line parts told table there stands silent plan planned)
+      let silent = build_silent s h renderer name kind line build_passes in
+      subst (λ (each : Plan). FitsParts s line each) (plan_read s h parts told table there stands renderer name line silent ∙ planned)
       (build_fits s h renderer name kind line build_passes
-      (status_so s groups legal event renderer name kind line parts told table there stands silent None fine))
+      (status_read s h parts told table there stands renderer name line silent None fine))
 
   -- the items that are to come are new ones of the history with the line
   pub build_items : 0 < page_limit s → (plan : Plan) → line_status_in parts table renderer.0 name line ≡ None → plan_in parts line ≡ plan
       → AllByRecursion (IsNew (pieces (page_limit s) later) (facts_of s later) first) (range_items line ++ own_items (page_limit s) first plan line)
   build_items sized plan fine planned =
-      let silent = slots_silent s h renderer name kind line build_passes in
+      let silent = build_silent s h renderer name kind line build_passes in
       items_new s groups legal event renderer name kind line build_adds sized
-      (status_so s groups legal event renderer name kind line parts told table there stands silent None fine) plan
-      (plan_so s groups legal event renderer name kind line parts told table there stands silent plan planned) (build_fitting plan fine planned)
+      (status_read s h parts told table there stands renderer name line silent None fine) plan
+      (plan_read s h parts told table there stands renderer name line silent ∙ planned) (build_fitting plan fine planned)
       (listed_are_there s groups legal)
 
   module _ (renderers : Table) (handed : ChangesCount (λ (count : ℕ). count + 1) renderer.0 name parts.renderers renderers) (used : ℕ) where
@@ -100,7 +101,7 @@ module _ (s : Session) (groups : List Group) (legal : IsLegalFrom s start groups
         stood_by_build s h later renderer name kind line
         (broken_parts s h later renderer name kind line why renderers used parts) told
         (fold (claimed_by true) table line)
-        (broken_grows s groups legal event renderer name kind line parts told table there stands (slots_silent s h renderer name kind line build_passes)
+        (broken_grows s groups legal event renderer name kind line parts told table there stands (build_silent s h renderer name kind line build_passes)
         build_adds renderers build_tables handed used why broke (free_accepted true parts table renderer name line accepted))
 
     pub build_comes : 0 < page_limit s → (plan : Plan) → line_status_in parts table renderer.0 name line ≡ None → plan_in parts line ≡ plan
@@ -115,6 +116,6 @@ module _ (s : Session) (groups : List Group) (legal : IsLegalFrom s start groups
         stood_by_build s h later renderer name kind line
         (planned_parts s h later renderer name kind line plan views own now renderers used parts) told
         (fold (claimed_by false) table line)
-        (planned_grows s groups legal event renderer name kind line parts told table there stands (slots_silent s h renderer name kind line build_passes)
+        (planned_grows s groups legal event renderer name kind line parts told table there stands (build_silent s h renderer name kind line build_passes)
         build_adds renderers build_tables handed used sized plan fine planned (build_fitting plan fine planned)
         (free_accepted false parts table renderer name line accepted) now views own added ranges brought weighs)

@@ -1,16 +1,12 @@
 -- The parts stand for the history with a line that builds, as the parts decide it: by the plan, or the status with which the blob breaks.
-use Rattle.std.proofs.Common.{◌≡◌, ℕ, ◌+◌, ◌<◌, Bool, true, false, List, [], ◌∷◌, ◌++◌, length, map, refl, ap, subst, sym, ◌∙◌, Option, Some, None}
+use Rattle.std.proofs.Common.{◌≡◌, ℕ, ◌+◌, ◌<◌, true, false, List, ◌++◌, length, map, refl, subst, sym, ◌∙◌, Option, Some, None}
 use Rattle.std.specs.Prelude.{fold, sum_by, IfSome}
-use Rattle.std.specs.List.{AllByRecursion}
 use Rattle.blob_words.specs.declared.number.RendererId.{RendererId}
 use Rattle.blob_words.specs.declared.plan.Plan.{Plan}
 use Rattle.blob_words.specs.declared.status.Status.{Status}
 use Rattle.session_script.specs.declared.event.Event.{Event}
-use Rattle.session_script.specs.declared.event.Event.TheVariants as events
 use Rattle.session_script.specs.declared.event.Part.{Part}
-use Rattle.answer_text.specs.declared.answer.Answer.TheVariants as answers
 use Rattle.answer_text.specs.declared.group.Group.{Group}
-use Rattle.answer_text.specs.declared.refusal.Refusal.{Refusal}
 use Rattle.blob_items.specs.declared.view.View.{View}
 use Rattle.data_handles.specs.Table.{Table as HandleTable}
 use Rattle.item_shares.specs.declared.item.Item.{Item}
@@ -22,16 +18,15 @@ use Rattle.renderer_table.specs.Counted.{ChangesCount}
 use Rattle.renderer_table.specs.Table.{Table}
 use Rattle.blob_model.specs.Builds.{Build}
 use Rattle.blob_model.specs.Choice.{first_that}
-use Rattle.blob_model.specs.Construct.{build_answer, build_answer_by, line_status, plan_for}
+use Rattle.blob_model.specs.Construct.{build_answer}
 use Rattle.blob_model.specs.History.{History, heard, history_from, start}
 use Rattle.blob_model.specs.Legal.{IsLegalFrom}
 use Rattle.blob_model.specs.Live.{is_live}
 use Rattle.blob_model.specs.Parts.{claims}
 use Rattle.blob_model.specs.Pieces.{Piece, pieces}
-use Rattle.blob_model.specs.Refusals.{claimed, refusal, slot_refusals}
+use Rattle.blob_model.specs.Refusals.{claimed, slot_refusals}
 use Rattle.blob_model.specs.Session.{Session, page_limit}
 use Rattle.blob_model.proofs.builds.Plans.{FitsParts}
-use Rattle.blob_model.proofs.kept.NewBlobs.{tests_fail}
 use Rattle.store_laws.specs.Arrivals.{coming_with, lengths_by, planned_entry}
 use Rattle.store_laws.specs.BuildLaws.{made, Adds, AreAdded, IsNew}
 use Rattle.store_laws.specs.BuiltStands.{broken_parts, planned_parts, with_name}
@@ -47,17 +42,10 @@ use Rattle.store_laws.specs.Tables.{TablesStand}
 use Rattle.store_laws.specs.Uses.{facts_of}
 use Rattle.store_laws.proofs.BuiltStands.{grows_by}
 use Rattle.store_laws.proofs.BuiltTables.{disk_built}
-use Rattle.store_laws.proofs.Decided.{builds_decided}
+use Rattle.store_laws.proofs.LineRead.{plan_read, status_read}
 use Rattle.store_laws.proofs.NewBlobs.{planned_now}
 use Rattle.store_laws.proofs.NewRows.{broken_now}
 use Rattle.store_laws.proofs.RangesHeld.{broken_held, planned_held}
-use Rattle.store_laws.proofs.ViewHas.{append_first}
-
--- where no test applies, the first that applies is none
-pub none_first : {X : Type 0} (cases : List (Bool × X)) → AllByRecursion (λ (case : Bool × X). case.0 ≡ false) cases → first_that cases ≡ None
-none_first [] none = refl
-none_first {X} (case ∷ cases) none =
-    ap (λ (b : Bool). first_that ((b, case.1) ∷ cases)) none.0 ∙ none_first cases none.1
 
 -- nothing comes where nothing changes
 pub same_added : (all : List Piece) (facts : Facts) (count : ℕ) (shares : List (Option Share)) → AreOnePerPiece shares → AreAdded all facts count shares shares
@@ -73,14 +61,6 @@ same_added all facts count shares apart = record {
 
     none_added : (slot : ℕ) → item_at shares slot ≡ None → IfSome (item_at shares slot) (IsNew all facts count)
     none_added slot none = subst (λ (found : Option Item). IfSome found (IsNew all facts count)) (sym none) tt
-
--- a line that is accepted names no slot that is taken
-pub slots_silent : (s : Session) (h : History) (renderer : RendererId) (name : ℕ) (kind : List ℕ) (line : List Part)
-    → refusal s h (events.Build renderer name kind line) ≡ None → first_that (slot_refusals s (claimed s h) (claims line)) ≡ None
-slots_silent s h renderer name kind line passes =
-    none_first (slot_refusals s (claimed s h) (claims line))
-    (append_first (λ (case : Bool × Refusal). case.0 ≡ false) (slot_refusals s (claimed s h) (claims line)) _
-    (tests_fail s h (events.Build renderer name kind line) passes).1.1)
 
 module _ (s : Session) (groups : List Group) (legal : IsLegalFrom s start groups) (event : Event) (renderer : RendererId) (name : ℕ) (kind : List ℕ)
     (line : List Part) (parts : Parts) (told : Option (List Change)) (table : HandleTable) (there : AreHeldThere parts)
@@ -98,22 +78,6 @@ module _ (s : Session) (groups : List Group) (legal : IsLegalFrom s start groups
   abbrev first : ℕ
   first = length (pieces (page_limit s) h)
 
-  pub status_so : (status : Option Status) → line_status_in parts table renderer.0 name line ≡ status → line_status s h renderer.0 name line ≡ status
-  status_so status is = sym (builds_decided.status s h parts told table there stands renderer.0 name line silent) ∙ is
-
-  pub plan_so : (plan : Plan) → plan_in parts line ≡ plan → plan_for s h line ≡ plan
-  plan_so plan is = sym (builds_decided.plan s h parts told table there stands line) ∙ is
-
-  -- the answer of the history
-  pub planned_answer : (plan : Plan) → line_status_in parts table renderer.0 name line ≡ None → plan_in parts line ≡ plan
-      → build_answer s h renderer.0 name line ≡ answers.Planned plan
-  planned_answer plan fine planned =
-      ap (build_answer_by s h name line) (status_so None fine) ∙ ap (λ (each : Plan). answers.Planned each) (plan_so plan planned)
-
-  pub broken_answer : (why : Status) → line_status_in parts table renderer.0 name line ≡ Some why
-      → build_answer s h renderer.0 name line ≡ answers.Broken name why
-  broken_answer why broke = ap (build_answer_by s h name line) (status_so (Some why) broke)
-
   module _ (adds : Adds s h later new) (renderers : Table) (tables : TablesStand s later renderers parts.urls parts.files parts.readers)
       (handed : ChangesCount (λ (count : ℕ). count + 1) renderer.0 name parts.renderers renderers) (used : ℕ) where
     -- the blob breaks at its line: no item comes
@@ -126,7 +90,8 @@ module _ (s : Session) (groups : List Group) (legal : IsLegalFrom s start groups
         (is_live (page_limit s) h) parts told table stands.between later adds refl tables
         (disk_built s h event renderer.0 name line told stands.between.disk_stands) (record {
           added = same_added (pieces (page_limit s) later) (facts_of s later) first parts.shares stands.between.contents.items.apart;
-          entered = broken_now s groups legal event renderer name kind line adds parts.shares why (status_so (Some why) broke);
+          entered = broken_now s groups legal event renderer name kind line adds parts.shares why
+              (status_read s h parts told table there stands renderer name line silent (Some why) broke);
           free = free;
           held = broken_held line parts.shares;
           handed = handed;
@@ -148,8 +113,9 @@ module _ (s : Session) (groups : List Group) (legal : IsLegalFrom s start groups
         (is_live (page_limit s) h) parts told table stands.between later adds refl tables
         (disk_built s h event renderer.0 name line told stands.between.disk_stands) (record {
           added = added;
-          entered = planned_now s groups legal event renderer name kind line adds sized (status_so None fine) plan (plan_so plan planned) fits parts told table
-              there stands now views own ranges brought;
+          entered = planned_now s groups legal event renderer name kind line adds sized
+              (status_read s h parts told table there stands renderer name line silent None fine) plan
+              (plan_read s h parts told table there stands renderer name line silent ∙ planned) fits parts told table there stands now views own ranges brought;
           free = free;
           held = planned_held (page_limit s) first plan line parts.shares now weighs;
           handed = handed;

@@ -52,7 +52,8 @@ use Rattle.store_laws.proofs.BuiltStands.{stood_by_slice}
 use Rattle.store_laws.proofs.BuiltTables.{fresh_by_slice, none_held, tables_by_slice}
 use Rattle.store_laws.proofs.Decided.{builds_decided}
 use Rattle.store_laws.proofs.Deciding.{holds_known}
-use Rattle.store_laws.proofs.LineStands.{broken_grows, plan_so, planned_grows, status_so}
+use Rattle.store_laws.proofs.LineRead.{plan_read, status_read}
+use Rattle.store_laws.proofs.LineStands.{broken_grows, planned_grows}
 use Rattle.store_laws.proofs.NewBlobs.{items_new, slice_fits}
 use Rattle.store_laws.proofs.Telling.{size_told}
 
@@ -104,7 +105,7 @@ module _ (s : Session) (groups : List Group) (legal : IsLegalFrom s start groups
 
   slice_fitting : (plan : Plan) → plan_in parts line ≡ plan → FitsParts s line plan
   slice_fitting plan planned =
-      subst (λ (each : Plan). FitsParts s line each) (plan_so s groups legal event renderer name kind line parts told table there stands refl plan planned)
+      subst (λ (each : Plan). FitsParts s line each) (plan_read s h parts told table there stands renderer name line refl ∙ planned)
       (subst (λ (each : List Part). FitsParts s each (plan_for s h each)) (sym slice_is) (slice_fits s h source from to))
 
   -- the items that are to come are new ones of the history with the line
@@ -112,8 +113,8 @@ module _ (s : Session) (groups : List Group) (legal : IsLegalFrom s start groups
       → AllByRecursion (IsNew (pieces (page_limit s) later) (facts_of s later) first) (range_items line ++ own_items (page_limit s) first plan line)
   slice_items sized plan fine planned =
       items_new s groups legal event renderer name kind line slice_adds sized
-      (status_so s groups legal event renderer name kind line parts told table there stands refl None fine) plan
-      (plan_so s groups legal event renderer name kind line parts told table there stands refl plan planned) (slice_fitting plan planned)
+      (status_read s h parts told table there stands renderer name line refl None fine) plan
+      (plan_read s h parts told table there stands renderer name line refl ∙ planned) (slice_fitting plan planned)
       (listed_are_there s groups legal)
 
   module _ (renderers : Table) (handed : ChangesCount (λ (count : ℕ). count + 1) renderer.0 name parts.renderers renderers) (used : ℕ) where
