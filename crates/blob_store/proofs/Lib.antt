@@ -68,3 +68,5 @@ pub mod Touching
 pub mod HeardSteps
 pub mod SeenEntered
 pub mod HeardBuilds
+pub mod MayCome
+pub mod Objects
