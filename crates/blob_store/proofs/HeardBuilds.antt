@@ -259,12 +259,12 @@ module _ (s : Session) (groups : List Group) (legal : IsLegalFrom s start groups
       let is = planned_read s before (parts_of old) told table held stands renderer name line silent fine in
       let laid : Laid = added.laid in
       let between = build_comes s groups legal renderer name kind line (parts_of old) told table held stands accepted now.renderers
-          (grows s groups legal renderer name kind line old now told table whole next sized stands event adds at planned fit can added).counts now.quota.used
-          s.limits.some_page one fine refl now.shares laid.ranges laid.pieces
-          (came s groups legal renderer name kind line old now told table whole next sized stands event adds at planned fit can added)
-          (ranges s groups legal renderer name kind line old now told table whole next sized stands event adds at planned fit can added)
-          (brought s groups legal renderer name kind line old now told table whole next sized stands event adds at planned fit can added)
-          (weighs s groups legal renderer name kind line old now told table whole next sized stands event adds at planned fit can added) in
+      (grows s groups legal renderer name kind line old now told table whole next sized stands event adds at planned fit can added).counts now.quota.used
+      s.limits.some_page one fine refl now.shares laid.ranges laid.pieces
+      (came s groups legal renderer name kind line old now told table whole next sized stands event adds at planned fit can added)
+      (ranges s groups legal renderer name kind line old now told table whole next sized stands event adds at planned fit can added)
+      (brought s groups legal renderer name kind line old now told table whole next sized stands event adds at planned fit can added)
+      (weighs s groups legal renderer name kind line old now told table whole next sized stands event adds at planned fit can added) in
       subst (λ (each : Answer). IsHeard s before event (each ∷ []) (scene now told (fold (claimed_by false) table line))) (sym comes.0)
       (heard_with (answers.Planned one) (fold (claimed_by false) table line) is
       (subst (λ (each : Answer). Between s (heard before event each) (stood (page_limit s) before event (each ∷ [])) (counted (parts_of now)) told
@@ -278,7 +278,7 @@ module _ (s : Session) (groups : List Group) (legal : IsLegalFrom s start groups
       let at = status_read s before (parts_of old) told table held stands renderer name line silent (Some why) broke in
       let is = broken_read s before (parts_of old) told table held stands renderer name line silent why broke in
       let between = build_breaks s groups legal renderer name kind line (parts_of old) told table held stands accepted now.renderers breaks.counts
-          now.quota.used why broke in
+      now.quota.used why broke in
       subst (λ (each : Answer). IsHeard s before event (each ∷ []) (scene now told (fold (claimed_by true) table line))) (sym comes.0)
       (heard_with (answers.Broken name why) (fold (claimed_by true) table line) is
       (subst (λ (each : Answer). Between s (heard before event each) (stood (page_limit s) before event (each ∷ [])) (counted (parts_of now)) told

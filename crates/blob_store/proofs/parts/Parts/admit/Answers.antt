@@ -68,7 +68,7 @@ returns-in_ok-add_planned-in-None-clause-admits g c =
             subst (λ (plan : Plan). CanAdd c.args.renderer c.args.name plan c.args.parts.now c.args.self.now) c.in_ok-plan-in-None.ensures.value can,
             subst (λ (plan : Plan).
                 IsAdded c.args.renderer c.args.name c.args.kind.now plan c.args.parts.now c.args.self.now c.add_planned.new.self)
-            c.in_ok-plan-in-None.ensures.value c.in_ok-add_planned-in-None.ensures.added,
+                c.in_ok-plan-in-None.ensures.value c.in_ok-add_planned-in-None.ensures.added,
           );
       handles = c.claim_all-in-None.ensures.claimed
           ∙ ap (λ (status : Option Status). fold (claimed_by (is_some status)) table c.args.parts.now) (sym stands);
@@ -83,7 +83,7 @@ returns-in_ok-add_planned-in-None-clause-objects g c =
     (sym c.in_ok-why.ensures.value ∙ c.in-None.is) c.in_ok-plan-in-None.plan c.in_ok-plan-in-None.ensures.value c.in_ok-plan-in-None.ensures.fits
     c.used-used.ensures.bound c.requires.may in
     let grows = added_grows c.args.renderer c.args.name c.args.kind.now c.in_ok-plan-in-None.plan c.args.parts.now c.args.self.now c.add_planned.new.self
-        c.in_ok-add_planned-in-None.ensures.added can in
+    c.in_ok-add_planned-in-None.ensures.added can in
     objects_come c.args.self.now.shares c.add_planned.new.self.shares table (of_table (seen-value (g.dyn-1.0, g.dyn-1.1)).it c.claim_all-in-None.new.handles)
     false c.args.parts.now
     (planned_held c.args.self.now.limits.page (first_piece c.args.self.now) c.in_ok-plan-in-None.plan c.args.parts.now c.args.self.now.shares
