@@ -31,7 +31,7 @@ module _ (renderer : RendererId) (name : ℕ) (kind : List ℕ) (why : Status) (
   same_shares : old.shares ≡ now.shares
   same_shares = sym (ap (λ (parts : Parts). parts.shares) breaks.rest)
 
-  broken_grows : Grows (broken_blob renderer name kind why line old) renderer.0 old now
+  pub broken_grows : Grows (broken_blob renderer name kind why line old) renderer.0 old now
   broken_grows =
       let used : old.quota.used ≡ old.quota.used + sum_by memory_weight [] = omega arith in
       let reserved : old.pages.reserved ≡ old.pages.reserved + sum_by reserved_weight [] = omega arith in
@@ -53,7 +53,7 @@ module _ (renderer : RendererId) (name : ℕ) (kind : List ℕ) (why : Status) (
         });
       }
 
-  broken_fits : Fits (broken_blob renderer name kind why line old) old now
+  pub broken_fits : Fits (broken_blob renderer name kind why line old) old now
   broken_fits = record {
     items_fit = record {
       later = tt;

@@ -64,3 +64,4 @@ pub mod AddedEntry
 pub mod AddedWhole
 pub mod SeenGrown
 pub mod SeenEntered
+pub mod SeenPlanned
