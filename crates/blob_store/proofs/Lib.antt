@@ -65,3 +65,4 @@ pub mod AddedWhole
 pub mod SeenGrown
 pub mod SeenEntered
 pub mod SeenPlanned
+pub mod SeenBroken
