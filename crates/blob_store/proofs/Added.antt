@@ -18,8 +18,10 @@ use Rattle.renderer_table.specs.Table.{count_of}
 use Rattle.store_laws.specs.Deciding.{line_weight_in}
 use Rattle.store_laws.specs.EntryLaws.{AreBrought}
 use Rattle.blob_store.specs.Adding.{arrival_of, CanAdd}
-use Rattle.blob_store.specs.Entering.{arrival_by, own_by, status_by, AreAtHand}
-use Rattle.blob_store.specs.Laying.{first_piece, lengths_by, Lays}
+use Rattle.store_laws.specs.Arrivals.{own_by, status_by}
+use Rattle.blob_store.specs.Entering.{arrival_by, AreAtHand}
+use Rattle.store_laws.specs.Arrivals.{lengths_by}
+use Rattle.blob_store.specs.Laying.{first_piece, Lays}
 use Rattle.blob_store.specs.Roots.{roots_at}
 use Rattle.blob_store.specs.Seen.{parts_of}
 use Rattle.blob_store.specs.Whole.{Whole}

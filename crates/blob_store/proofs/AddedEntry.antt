@@ -28,8 +28,10 @@ use Rattle.store_laws.specs.PartLaws.{recipe_of}
 use Rattle.store_laws.proofs.ViewHas.{append_first}
 use Rattle.blob_store.specs.Adding.{arrival_of, new_blob, CanAdd}
 use Rattle.blob_store.specs.Blobs.{Comes, IsInside, Views}
-use Rattle.blob_store.specs.Entering.{arrived, own_by, status_by}
-use Rattle.blob_store.specs.Laying.{first_piece, own_items, sending_by, slot_of}
+use Rattle.store_laws.specs.Arrivals.{own_by, status_by}
+use Rattle.blob_store.specs.Entering.{arrived}
+use Rattle.store_laws.specs.NewItems.{own_items}
+use Rattle.blob_store.specs.Laying.{first_piece, sending_by, slot_of}
 use Rattle.blob_store.specs.NewBlobs.{EntryFits}
 use Rattle.store_laws.specs.NewItems.{range_items}
 use Rattle.blob_store.specs.Putting.{span}

@@ -27,7 +27,9 @@ use Rattle.store_laws.specs.EntryLaws.{all_lengths, AreBrought}
 use Rattle.store_laws.specs.Items.{piece_of_item}
 use Rattle.store_laws.specs.Weights.{memory_weight, piece_weight, range_weight, reserved_weight}
 use Rattle.blob_store.specs.Adding.{new_blob, CanAdd, IsThere}
-use Rattle.blob_store.specs.Laying.{first_piece, homes_by, lengths_by, own_items, sending_by, slot_of, Lays}
+use Rattle.store_laws.specs.Arrivals.{lengths_by}
+use Rattle.store_laws.specs.NewItems.{own_items}
+use Rattle.blob_store.specs.Laying.{first_piece, homes_by, sending_by, slot_of, Lays}
 use Rattle.blob_store.specs.NewBlobs.{ItemsFit}
 use Rattle.store_laws.specs.NewItems.{memory_items, range_items, reserved_items}
 use Rattle.blob_store.specs.Putting.{ArePut, is_seen}

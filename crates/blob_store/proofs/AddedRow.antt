@@ -27,7 +27,9 @@ use Rattle.store_laws.specs.EntryLaws.{all_lengths, AreBrought}
 use Rattle.store_laws.specs.Items.{holds_piece, is_number, piece_of_item, piece_of_share}
 use Rattle.store_laws.specs.Weights.{piece_weight}
 use Rattle.blob_store.specs.Adding.{arrival_of, new_blob, CanAdd}
-use Rattle.blob_store.specs.Laying.{first_piece, homes_by, lengths_by, own_items, sending_by, slot_of}
+use Rattle.store_laws.specs.Arrivals.{lengths_by}
+use Rattle.store_laws.specs.NewItems.{own_items}
+use Rattle.blob_store.specs.Laying.{first_piece, homes_by, sending_by, slot_of}
 use Rattle.blob_store.specs.NewBlobs.{RowFits}
 use Rattle.store_laws.specs.NewItems.{range_items, reserved_items}
 use Rattle.blob_store.specs.Putting.{is_seen}

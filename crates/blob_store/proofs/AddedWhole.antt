@@ -16,7 +16,8 @@ use Rattle.store_laws.specs.Weights.{memory_weight, piece_weight, reserved_weigh
 use Rattle.blob_model.specs.Parts.{own_bytes}
 use Rattle.blob_store.specs.Adding.{arrival_of, new_blob, CanAdd, IsAdded}
 use Rattle.blob_store.specs.Entering.{arrived}
-use Rattle.blob_store.specs.Laying.{first_piece, homes_by, own_items, slot_of}
+use Rattle.store_laws.specs.NewItems.{own_items}
+use Rattle.blob_store.specs.Laying.{first_piece, homes_by, slot_of}
 use Rattle.blob_store.specs.NewBlobs.{Fits, Grows}
 use Rattle.store_laws.specs.NewItems.{range_items}
 use Rattle.blob_store.specs.Rows.{waits_by}

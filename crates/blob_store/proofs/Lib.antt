@@ -63,6 +63,10 @@ pub mod AddedRecipe
 pub mod AddedEntry
 pub mod AddedWhole
 pub mod SeenGrown
+pub mod Moving
+pub mod Touching
+pub mod HeardSteps
 pub mod SeenEntered
 pub mod SeenPlanned
 pub mod SeenBroken
+pub mod HeardBuilds

@@ -19,7 +19,8 @@ use Rattle.transport_plan.specs.Spans.{piece_count}
 use Rattle.store_laws.specs.Deciding.{input_in, line_weight_in}
 use Rattle.store_laws.specs.Weights.{range_weight}
 use Rattle.blob_store.specs.Entering.{arrival_by, arrived, broken_arrival, Enters}
-use Rattle.blob_store.specs.Laying.{first_piece, homes_by, own_items, slot_of, HasRoom, Lays}
+use Rattle.store_laws.specs.NewItems.{own_items}
+use Rattle.blob_store.specs.Laying.{first_piece, homes_by, slot_of, HasRoom, Lays}
 use Rattle.blob_store.specs.NewBlobs.{NewBlob}
 use Rattle.store_laws.specs.NewItems.{range_items}
 use Rattle.blob_store.specs.Seen.{parts_of}

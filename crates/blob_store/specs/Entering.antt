@@ -15,6 +15,7 @@ use Rattle.blob_model.specs.Parts.{own_lengths, parts_length}
 use Rattle.renderer_table.specs.Counted.{ChangesCount}
 use Rattle.renderer_table.specs.Counts.{one_more}
 use Rattle.renderer_table.specs.Table.{counts_of, with_counts}
+use Rattle.store_laws.specs.Arrivals.{own_by, status_by}
 use Rattle.store_laws.specs.PartLaws.{recipe_of}
 use Rattle.blob_store.specs.declared.building.entering.Arrival.{Arrival}
 use Rattle.blob_store.specs.declared.building.laying.Laid.{Laid}
@@ -53,18 +54,6 @@ pub record Enters (renderer : RendererId) (name : ℕ) (entry : Entry) (row : Ro
   }
 
 -- ---- what arrives
-
--- what a blob waits for, by its plan
-abbrev pub status_by : Plan → Status
-status_by (plans.Shared n) = statuses.PendingQuota
-status_by (plans.File n) = statuses.PendingTransport
-status_by plan = statuses.PendingReferencedBlobs
-
--- the views of the own pieces, where the line has their bytes
-abbrev pub own_by : Plan → List View → Option (List View)
-own_by (plans.Shared n) pieces = None
-own_by (plans.File n) pieces = None
-own_by plan pieces = Some pieces
 
 abbrev pub arrival_by : ℕ → Plan → ℕ → ℕ → List Part → Laid → Arrival
 arrival_by page plan weight first parts laid = record {

@@ -14,7 +14,8 @@ use Rattle.transport_plan.specs.Spans.{piece_count}
 use Rattle.store_laws.specs.EntryLaws.{all_lengths, AreBrought}
 use Rattle.store_laws.specs.PartLaws.{AreRanges}
 use Rattle.store_laws.specs.Weights.{memory_weight, piece_weight, reserved_weight}
-use Rattle.store_laws.specs.NewItems.{inline_items, range_items, reserved_items}
+use Rattle.store_laws.specs.Arrivals.{lengths_by}
+use Rattle.store_laws.specs.NewItems.{own_items, range_items}
 use Rattle.blob_store.specs.Putting.{ArePut}
 use Rattle.blob_store.specs.Rows.{waits_by}
 use Rattle.blob_store.specs.declared.building.laying.Laid.{Laid}
@@ -26,12 +27,6 @@ use Rattle.blob_store.specs.declared.row.Sending.TheVariants.{Settled, Waiting, 
 abbrev pub slot_of : View → ℕ
 slot_of view = view.slot
 
--- the items of the own pieces that come at once: in memory, reserved in page files, or none while they wait
-abbrev pub own_items : ℕ → ℕ → Plan → List Part → List Item
-own_items page first (plans.Shared n) parts = []
-own_items page first (plans.File n) parts = reserved_items first (all_lengths page parts)
-own_items page first plan parts = inline_items page first parts
-
 -- how the own bytes come
 abbrev pub sending_by : Plan → List ℕ → Sending
 sending_by (plans.Shared n) slots = Waiting
@@ -42,11 +37,6 @@ sending_by plan slots = Settled
 abbrev pub homes_by : ℕ → Plan → List Part → List ℕ → List ℕ
 homes_by page (plans.Shared n) parts slots = replicate (piece_count page (own_lengths parts)) 0
 homes_by page plan parts slots = slots
-
--- the lengths of the pieces that have items
-abbrev pub lengths_by : ℕ → Plan → List Part → List ℕ
-lengths_by page (plans.Shared n) parts = []
-lengths_by page plan parts = all_lengths page parts
 
 -- there is room for the own bytes where they go
 abbrev pub HasRoom : Plan → List Part → Parts → Type 0

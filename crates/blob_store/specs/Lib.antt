@@ -23,3 +23,4 @@ pub mod Laying
 pub mod Entering
 pub mod Adding
 pub mod Admitting
+pub mod Steps

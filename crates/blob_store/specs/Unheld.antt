@@ -26,9 +26,12 @@ use Rattle.blob_store.specs.Dropping.{settled_by}
 use Rattle.blob_store.specs.Says.{Scene}
 use Rattle.blob_store.specs.Seen.{parts_of}
 
--- the objects behind items are claimed and there
+-- an object is claimed and there, and those behind items are
+abbrev pub HasObject : Table → ℕ → Type 0
+HasObject table k = (is_claimed_at table k ≡ true) × IsSome (object_at table k)
+
 abbrev pub HaveObjects : List (Option Share) → Table → Type 0
-HaveObjects shares table = (k : ℕ) → holds_slot shares k ≡ true → (is_claimed_at table k ≡ true) × IsSome (object_at table k)
+HaveObjects shares table = (k : ℕ) → holds_slot shares k ≡ true → HasObject table k
 
 -- the entries that don't live went, with the items on which nothing has a view or a pin any more, those that the sweep freed and then pieces on
 -- their way; the rows of the names dropped are settled, and the queue is without them

@@ -1,5 +1,6 @@
 //! One file a kind of line: what it answers of itself, and what it changes.
 
+mod build;
 mod cancel;
 mod count;
 mod die;
@@ -16,4 +17,5 @@ mod refusals;
 mod revoke;
 mod spawn;
 mod stat;
+mod touching;
 mod url;

@@ -2,10 +2,23 @@
 ghost use Rattle.std.specs.Prelude.{ℕ, ◌≡◌, [], None, false, length, IfNone, IfSome, OnErr, OnOk};
 ghost use Rattle.std.specs.Option.{option_copied};
 ghost use Rattle.blob_store.specs.Readers.{is_own, reader_at, Closes, ClosesFrom, Opens};
+ghost use Rattle.blob_store.specs.Steps.{IsStepped};
+ghost use Rattle.std.specs.Prelude.{◌^◌, ◌-◌, ◌<◌, ◌≤◌, min, IsSomeAnd};
+ghost use Rattle.std.specs.List.{AllByRecursion};
+ghost use Rattle.blob_items.specs.Cells.{total};
+ghost use Rattle.data_handles.specs.Boxes.{of_table};
+ghost use Rattle.range_reader.specs.Bytes.{origins};
+ghost use Rattle.range_reader.specs.Places.{ViewLies};
+ghost use Rattle.range_reader.specs.Steps.{asked};
 
 use crate::owners::{Owners, pop_number, put_number, take_number};
+use blob_items::ViewList;
 use blob_words::{BlobName, NoMemory, ReaderId, RendererId};
-use range_reader::Reader;
+use data_handles::{Boxed, DataHandle, HandleTable};
+use file_table::FileTable;
+use item_shares::Shares;
+use page_disk::PageDisk;
+use range_reader::{Reader, StepEnd};
 use std::alloc::Global;
 use std::collections::BTreeMap;
 use std::marker::Model;
@@ -104,5 +117,43 @@ impl Readers {
         let number = pop_number(&mut self.owners, owner.0)?;
         let reader = self.by_number.remove(&number)?;
         Some(reader)
+    }
+
+    /// Lets an open reader read the next bytes of its range into the front of `out`.
+    pub fn step<D: PageDisk>(
+        &mut self,
+        number: ReaderId,
+        views: &ViewList,
+        shares: &Shares,
+        files: &FileTable,
+        disk: &mut D,
+        handles: &mut HandleTable,
+        out: &mut [u8],
+    ) -> StepEnd
+        requires closed { D.writing disk.old ≡ None }
+        requires room { 0 < length out.old }
+        requires size { IsSomeAnd (reader_at number.0 self.old)
+            (λ one. total views.now ≡ one.course.size) }
+        requires lie { AllByRecursion (ViewLies
+            (origins files.now (D.changes disk.old)
+            (of_table ⟦<Boxed as DataHandle>⟧.seen handles.old)) shares.now)
+            views.now }
+        ensures closed { D.writing disk.new ≡ None }
+        ensures same { D.changes disk.new ≡ D.changes disk.old }
+        ensures stepped { IsSomeAnd (reader_at number.0 self.old) (λ one.
+            IsStepped number.0 one shares.now views.now (length out.old)
+            (asked files.now (D.changes disk.old)
+            (of_table ⟦<Boxed as DataHandle>⟧.seen handles.old)
+            (D.faults disk.old) (D.meter disk.old))
+            (asked files.now (D.changes disk.new)
+            (of_table ⟦<Boxed as DataHandle>⟧.seen handles.new)
+            (D.faults disk.new) (D.meter disk.new)) out.new result self.old self.new) }
+        ensures later { D.faults disk.old ≤ D.faults disk.new }
+        ensures meter { min (D.meter disk.old) (2 ^ 64 - 1) ≤ D.meter disk.new }
+    {
+        let Some(open) = self.by_number.get_mut(&number.0) else {
+            unreachable!()
+        };
+        open.course.step(views, shares, files, disk, handles, out)
     }
 }

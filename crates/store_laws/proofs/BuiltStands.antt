@@ -12,12 +12,10 @@ use Rattle.data_handles.specs.Table.{Table as HandleTable}
 use Rattle.item_shares.specs.declared.shares.Share.{Share}
 use Rattle.page_disk.specs.declared.change.Change.{Change}
 use Rattle.renderer_table.specs.Table.{Table}
-use Rattle.blob_model.specs.Builds.{builds, slice_parts}
 use Rattle.blob_model.specs.Construct.{build_answer, build_answer_by, line_status}
-use Rattle.blob_model.specs.History.{History, heard, history_from, start}
+use Rattle.blob_model.specs.History.{History, history_from, start}
 use Rattle.blob_model.specs.Legal.{IsLegalFrom}
 use Rattle.blob_model.specs.Live.{is_live}
-use Rattle.blob_model.specs.Refusals.{refusal}
 use Rattle.blob_model.specs.Session.{Session, page_limit}
 use Rattle.store_laws.specs.BuildLaws.{grown_parts, made, Adds}
 use Rattle.store_laws.specs.BuiltStands.{with_name, Came}
@@ -26,8 +24,7 @@ use Rattle.store_laws.specs.LineLaws.{counted}
 use Rattle.store_laws.specs.Rows.{Row}
 use Rattle.store_laws.specs.Stands.{lines, stood, Between, Parts}
 use Rattle.store_laws.specs.Tables.{DiskStands, TablesStand}
-use Rattle.store_laws.proofs.Building.{builds_add, grown_stands, listed_are_there}
-use Rattle.store_laws.proofs.BuiltTables.{disk_built, fresh_by_build, fresh_by_slice, none_held, tables_by_build, tables_by_slice}
+use Rattle.store_laws.proofs.Building.{grown_stands, listed_are_there}
 use Rattle.store_laws.proofs.Claiming.{claims_built, handles_built}
 use Rattle.store_laws.proofs.Resting.{rests_when_settled}
 use Rattle.store_laws.proofs.Unmarked.{none_marked}
@@ -38,47 +35,18 @@ module _ (s : Session) (groups : List Group) (legal : IsLegalFrom s start groups
   abbrev h : History
   h = history_from start groups
 
-  by_parts : (later : History) → Adds s h later (made s h renderer name kind line) → lines later ≡ lines h + 1
+  pub grows_by : (later : History) → Adds s h later (made s h renderer name kind line) → lines later ≡ lines h + 1
       → TablesStand s later renderers parts.urls parts.files parts.readers → DiskStands s later told
       → Came s h later renderer name kind line is_broken entry row now renderers parts table
       → Between s later (with_name name stands) (counted (grown_parts s later (made s h renderer name kind line) entry row now renderers used parts)) told
       (fold (claimed_by is_broken) table line)
-  by_parts later adds one_line tables disk came =
+  grows_by later adds one_line tables disk came =
       grown_stands s h stands parts told table (none_marked s groups stands parts told table legal between) between (rests_when_settled s groups legal)
       (listed_are_there s groups legal) later (made s h renderer name kind line) adds one_line entry row now came.added came.entered renderers tables
       (fold (claimed_by is_broken) table line)
       (handles_built s h later (made s h renderer name kind line) adds is_broken table parts.shares now between.handles between.claims came.free came.held)
       (claims_built s h later (made s h renderer name kind line) adds is_broken table parts.shares now between.handles between.claims came.free came.held)
       disk used
-
-  abbrev build_later : History
-  build_later = heard h (events.Build renderer name kind line) (build_answer s h renderer.0 name line)
-
-  pub build_grows : refusal s h (events.Build renderer name kind line) ≡ None
-      → Came s h build_later renderer name kind line is_broken entry row now renderers parts table
-      → Between s build_later (with_name name stands)
-      (counted (grown_parts s build_later (made s h renderer name kind line) entry row now renderers used parts)) told (fold (claimed_by is_broken) table line)
-  build_grows passes came =
-      by_parts build_later (builds_add.by_build s groups renderer name kind line legal passes) refl
-      (tables_by_build s h renderer name (none_held s groups renderer.0 name legal (fresh_by_build s h renderer name kind line passes)) parts.renderers
-      renderers parts.urls parts.files parts.readers between.tables came.handed kind line (build_answer s h renderer.0 name line))
-      (disk_built s h (events.Build renderer name kind line) renderer.0 name line told between.disk_stands) came
-
-  module _ (source : ℕ) (from to : Option ℤ) where
-    abbrev slice_later : History
-    slice_later = heard h (events.Slice renderer name source from to kind) (build_answer s h renderer.0 name line)
-
-    pub slice_grows : refusal s h (events.Slice renderer name source from to kind) ≡ None → line ≡ slice_parts (builds (page_limit s) h) source from to
-        → Came s h slice_later renderer name kind line is_broken entry row now renderers parts table
-        → Between s slice_later (with_name name stands)
-        (counted (grown_parts s slice_later (made s h renderer name kind line) entry row now renderers used parts)) told
-        (fold (claimed_by is_broken) table line)
-    slice_grows passes is came =
-        by_parts slice_later (builds_add.by_slice s groups renderer name source from to kind legal passes line is) refl
-        (tables_by_slice s h renderer name
-        (none_held s groups renderer.0 name legal (fresh_by_slice s h renderer name source from to kind passes)) parts.renderers
-        renderers parts.urls parts.files parts.readers between.tables came.handed source from to kind (build_answer s h renderer.0 name line))
-        (disk_built s h (events.Slice renderer name source from to kind) renderer.0 name line told between.disk_stands) came
 
 -- ---- the blobs that stand
 

@@ -83,3 +83,13 @@ pub mod Ungranted
 pub mod NewRows
 pub mod NewPieces
 pub mod NewBlobs
+pub mod LineRead
+pub mod Writing
+pub mod Stepping
+pub mod Unread
+pub mod Stepped
+pub mod Using
+pub mod RangesHeld
+pub mod LineStands
+pub mod BuildLines
+pub mod SliceLines

@@ -20,7 +20,7 @@ use Rattle.store_laws.proofs.Viewed.{iff_true}
 
 -- ---- uses, one after the other
 
-turn : (a b : ℕ) → (a == b) ≡ (b == a)
+pub turn : (a b : ℕ) → (a == b) ≡ (b == a)
 turn a b = iff_true (a == b) (b == a) (λ e. eq-eqb b a (sym (eqb-true a b e))) (λ e. eq-eqb a b (sym (eqb-true b a e)))
 
 -- the pieces of those that got done are used, in the order of the endings
@@ -61,7 +61,7 @@ module _ (tell : ℕ → Option (ℕ × ℕ)) (named : (n : ℕ) (entry : ℕ ×
           rest
           ∙ ap (λ (o : Option (ℕ × ℕ)). cons_option o (filter_map tell uses)) (sym none ∙ ap tell (sym (eqb-true n number at)))
 
-  some_out : (number : ℕ) (uses : List ℕ)
+  pub some_out : (number : ℕ) (uses : List ℕ)
       → filter_map tell (filter (λ (each : ℕ). not (each == number)) uses) ≡ without number (filter_map tell uses)
   some_out number [] = refl
   some_out number (n ∷ uses) = go (n == number) refl (tell n) refl (some_out number uses)

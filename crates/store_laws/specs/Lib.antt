@@ -43,3 +43,4 @@ pub mod Claiming
 pub mod BuiltStands
 pub mod NewItems
 pub mod Arrivals
+pub mod StepLaws

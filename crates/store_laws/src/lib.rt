@@ -6,4 +6,5 @@ mod job_laws;
 mod late_laws;
 mod laws;
 mod page_laws;
+mod step_laws;
 mod table_laws;

@@ -1,5 +1,5 @@
 -- What is read off contents about cells is what the history says.
-use Rattle.std.proofs.Common.{◌≡◌, ℕ, zero, suc, ◌+◌, ◌<◌, ◌≤◌, ◌&&◌, ◌||◌, Bool, true, false, cond, not, List, [], ◌∷◌, ◌++◌, length, take, map, Option, Some, None, refl, sym, ap, ◌∙◌, arith}
+use Rattle.std.proofs.Common.{◌≡◌, ℕ, suc, ◌&&◌, ◌||◌, Bool, true, false, cond, not, List, [], ◌∷◌, ◌++◌, length, map, Option, Some, None, refl, sym, ap, ◌∙◌}
 use Rattle.std.specs.Prelude.{find, take_while, slice_get, is_some}
 use Rattle.std.specs.List.{list_any}
 use Rattle.std.specs.Option.{option_and_then, option_map}
@@ -10,7 +10,6 @@ use Rattle.blob_words.specs.declared.limits.Limits.{Limits}
 use Rattle.blob_words.specs.declared.plan.Plan.{Plan}
 use Rattle.blob_words.specs.declared.plan.Plan.TheVariants as plans
 use Rattle.answer_text.specs.declared.answer.Answer.{Answer}
-use Rattle.answer_text.specs.declared.answer.Answer.TheVariants as answers
 use Rattle.blob_model.specs.Session.{Slot, Outside, Session, page_limit}
 use Rattle.blob_model.specs.History.{History}
 use Rattle.blob_model.specs.Recorded.{FileState}
@@ -28,7 +27,7 @@ use Rattle.history_notions.specs.declared.run.Source.TheVariants as kinds
 use Rattle.history_notions.specs.Kept.{Brought, arrivals_in}
 use Rattle.history_notions.specs.Placed.{place_at}
 use Rattle.history_notions.specs.Runs.{cell_at}
-use Rattle.history_notions.specs.Silent.{silent, outside_of}
+use Rattle.history_notions.specs.Silent.{silent}
 use Rattle.history_notions.specs.Follows.{Follows}
 use Rattle.transcript_audit.specs.declared.cells.At.{At}
 use Rattle.transcript_audit.specs.Tests.{is_only, is_among}

@@ -1,9 +1,13 @@
 mod Decided
 mod Passes
 mod Turned
+mod Idle
 mod OwnTests
 mod OwnCount
 mod Judging
 mod GoodCells
 mod Arrivals
 mod CellReads
+mod OwnFronts
+mod Ends
+mod Verdicts

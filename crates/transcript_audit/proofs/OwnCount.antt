@@ -1,6 +1,5 @@
 -- How many own answers a line has, and so where they end.
-use Rattle.std.proofs.Common.{◌≡◌, ℕ, zero, suc, ◌+◌, ◌≤◌, ◌<◌, Bool, true, false, List, [], ◌∷◌, ◌++◌, length, take, Option, Some, None, refl, subst, sym, ap, ◌∙◌, ◌⊎◌, inl, inr, ⊎_elim, arith}
-use Rattle.std.specs.Prelude.{flat_map}
+use Rattle.std.proofs.Common.{◌≡◌, ℕ, zero, suc, ◌≤◌, ◌<◌, List, [], ◌∷◌, ◌++◌, length, take, Option, Some, None, refl, subst, ap, ◌∙◌, ◌⊎◌, inl, inr, ⊎_elim, arith}
 use Rattle.blob_words.specs.declared.number.ReaderId.{ReaderId}
 use Rattle.blob_words.specs.declared.number.JobNo.{JobNo}
 use Rattle.blob_words.specs.declared.plan.Plan.{Plan}
@@ -17,14 +16,14 @@ use Rattle.blob_model.specs.History.{History}
 use Rattle.blob_model.specs.Builds.{Cell, sent, filed, lent}
 use Rattle.blob_model.specs.Standing.{ended}
 use Rattle.blob_model.specs.Readers.{OpenReader, reader_at}
-use Rattle.blob_model.specs.Chunk.{left, chunk, file_of, first_failing, before_failing}
+use Rattle.blob_model.specs.Chunk.{left, chunk, first_failing, before_failing}
 use Rattle.blob_model.specs.Pieces.{Piece, pieces, piece_with}
 use Rattle.blob_model.specs.Pages.{Place, in_memory, reserved, in_page, place}
 use Rattle.blob_model.specs.Jobs.{in_flight}
 use Rattle.blob_model.specs.Tally.{job_left}
 use Rattle.blob_model.specs.Refusals.{refusal}
 use Rattle.blob_model.specs.Choice.{IsOneOf}
-use Rattle.blob_model.specs.Own.{accepted, failing, read_faults, cell_fault, sent_fault, page_fault, stored_answers, unstored_answers, plan_in, job_done, job_failed, source_of, IsRead, IsNext, IsStepBy, IsStep, IsAccepted, IsOwnBy, IsOwn}
+use Rattle.blob_model.specs.Own.{read_faults, cell_fault, sent_fault, page_fault, stored_answers, unstored_answers, plan_in, job_failed, source_of, IsRead, IsNext, IsStepBy, IsStep, IsAccepted, IsOwnBy, IsOwn}
 use Rattle.transcript_audit.specs.OwnTests.{plan_count, event_count, own_count_by, own_count, OwnFound}
 
 one_of_append : {X : Type 0} (x : X) (xs ys : List X) → IsOneOf x (xs ++ ys) → IsOneOf x xs ⊎ IsOneOf x ys

@@ -1,27 +1,22 @@
 -- The tests on own answers tell exactly the own answers.
-use Rattle.std.proofs.Common.{◌≡◌, ℕ, zero, suc, ◌+◌, ◌≤◌, ◌<◌, ◌==◌, Bool, true, false, ◌&&◌, ◌||◌, List, [], ◌∷◌, ◌++◌, length, take, Option, Some, None, refl, subst, sym, ap, ◌∙◌, inl, inr, ⊎_elim, arith}
-use Rattle.std.specs.Prelude.{flat_map}
+use Rattle.std.proofs.Common.{◌≡◌, ℕ, zero, suc, ◌==◌, true, List, [], ◌∷◌, Option, Some, None, subst, sym, inl, inr, ⊎_elim}
 use Rattle.std.proofs.lemmas.Bool.{and_parts}
 use Rattle.blob_words.specs.declared.number.ReaderId.{ReaderId}
-use Rattle.blob_words.specs.declared.plan.Plan.{Plan}
-use Rattle.blob_words.specs.declared.plan.Plan.TheVariants as plans
 use Rattle.blob_words.specs.declared.status.Status.{Status}
 use Rattle.blob_words.specs.declared.status.Status.TheVariants as statuses
 use Rattle.session_script.specs.declared.event.Event.{Event}
 use Rattle.session_script.specs.declared.event.Event.TheVariants as events
 use Rattle.answer_text.specs.declared.answer.Answer.{Answer}
 use Rattle.answer_text.specs.declared.answer.Answer.TheVariants as answers
-use Rattle.answer_text.specs.declared.refusal.Refusal.{Refusal}
 use Rattle.blob_model.specs.Session.{Session, page_limit}
 use Rattle.blob_model.specs.History.{History}
-use Rattle.blob_model.specs.Builds.{Cell, sent, filed, lent}
+use Rattle.blob_model.specs.Builds.{Cell}
 use Rattle.blob_model.specs.Standing.{ended}
 use Rattle.blob_model.specs.Readers.{OpenReader, reader_at}
 use Rattle.blob_model.specs.Chunk.{left, chunk, file_of, first_failing, before_failing}
 use Rattle.blob_model.specs.Value.{agree}
-use Rattle.blob_model.specs.Refusals.{refusal}
 use Rattle.blob_model.specs.Choice.{IsOneOf}
-use Rattle.blob_model.specs.Own.{accepted, failing, read_faults, IsGiven, IsRead, IsNext, IsStepBy, IsStep, IsAccepted, IsOwnBy, IsOwn}
+use Rattle.blob_model.specs.Own.{accepted, failing, read_faults, IsGiven, IsRead, IsNext, IsStepBy, IsStep, IsAccepted}
 use Rattle.blob_model.proofs.Lists.{both, false_true, or_cases, or_first, or_second}
 use Rattle.blob_model.proofs.tested.Words.{same_reader-sound, same_reader-whole}
 use Rattle.blob_model.proofs.tested.Answers.{same_answer-sound, same_answer-whole}

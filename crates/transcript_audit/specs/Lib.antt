@@ -3,3 +3,7 @@ pub mod Owed
 pub mod Cells
 pub mod OwnTests
 pub mod Judged
+pub mod Large
+pub mod Runs
+pub mod Says
+pub mod Audit

@@ -17,6 +17,10 @@ use Rattle.blob_model.specs.Jobs.{Job}
 use Rattle.blob_model.specs.Order.{named}
 use Rattle.history_notions.specs.Kept.{ended_in}
 
+-- a blob has not ended
+abbrev pub is_unended : List (ℕ × Status) → Build → Bool
+is_unended endings build = is_none (ended_in endings build.name)
+
 -- a blob is lost where it is unfinished and not among those that live; it is dropped then
 abbrev pub is_lost : List (ℕ × Status) → List Build → Build → Bool
 is_lost endings lives build = is_none (ended_in endings build.name) && not (named build.name lives)

@@ -1,5 +1,5 @@
 -- Tests on the own answers of a line: the one answer, or the two of a segment that goes to a page file. Own.
-use Rattle.std.specs.Prelude.{◌≡◌, ◌≤◌, ℕ, zero, suc, ◌==◌, ◌&&◌, ◌||◌, Bool, true, false, List, [], ◌∷◌, length, take, Option, None, Some}
+use Rattle.std.specs.Prelude.{◌≡◌, ◌≤◌, ℕ, zero, suc, ◌==◌, ◌&&◌, ◌||◌, Bool, false, List, ◌∷◌, length, take, Option, None, Some}
 use Rattle.blob_words.specs.declared.number.ReaderId.{ReaderId}
 use Rattle.blob_words.specs.declared.plan.Plan.{Plan}
 use Rattle.blob_words.specs.declared.plan.Plan.TheVariants as plans

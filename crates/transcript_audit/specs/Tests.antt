@@ -1,5 +1,5 @@
 -- Tests on answers, each of which tells exactly what it is named for. Own.
-use Rattle.std.specs.Prelude.{ℕ, ◌==◌, Bool, false, ◌||◌, ◌&&◌, true, Option, Some, List, [], ◌∷◌}
+use Rattle.std.specs.Prelude.{◌==◌, Bool, false, ◌||◌, ◌&&◌, true, Option, Some, List, [], ◌∷◌}
 use Rattle.blob_words.specs.declared.number.PieceNo.{PieceNo}
 use Rattle.blob_words.specs.declared.plan.Plan.{Plan}
 use Rattle.blob_words.specs.declared.plan.Plan.TheVariants as plans

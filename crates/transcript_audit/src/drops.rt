@@ -8,7 +8,7 @@ ghost use Rattle.blob_model.specs.Order.{named};
 ghost use Rattle.blob_model.specs.Settle.{drops};
 ghost use Rattle.history_notions.specs.Follows.{Follows};
 ghost use Rattle.history_notions.specs.Chosen.{items_at};
-ghost use Rattle.transcript_audit.specs.Owed.{dropped, is_lost};
+ghost use Rattle.transcript_audit.specs.Owed.{dropped, is_lost, is_unended};
 
 use answer_text::{Answer, Answers};
 use blob_words::{BlobName, ItemList, NoMemory};
@@ -69,8 +69,15 @@ fn lost(
     Ok(found)
 }
 
-/// The unfinished blobs that aren't live are dropped, the greatest build number first.
-pub fn drops(contents: &Contents) -> Result<Answers, NoMemory>
+/// Whether one of the blobs is unfinished.
+fn has_unfinished(endings: &Endings, builds: &[Build]) -> bool
+    ensures { result ≡ list_any (is_unended endings.now) builds.now }
+{
+    builds.iter().any(|build| endings.is_unfinished(build.name))
+}
+
+/// The answers for the unfinished blobs that aren't live, the greatest build number first.
+fn lost_last_first(contents: &Contents) -> Result<Answers, NoMemory>
     ensures { IfOk result (λ found. (s : Session) (h : History) → Follows s h contents.now
         → found ≡ drops s h) }
 {
@@ -80,4 +87,15 @@ pub fn drops(contents: &Contents) -> Result<Answers, NoMemory>
     let mut found = lost(contents.alloc, endings, builds, places.as_slice())?;
     found.as_mut_slice().reverse();
     Ok(found)
+}
+
+/// The unfinished blobs that aren't live are dropped, the greatest build number first.
+pub fn drops(contents: &Contents) -> Result<Answers, NoMemory>
+    ensures { IfOk result (λ found. (s : Session) (h : History) → Follows s h contents.now
+        → found ≡ drops s h) }
+{
+    if !has_unfinished(&contents.kept.endings, contents.builds.as_slice()) {
+        return Ok(ItemList::new(contents.alloc));
+    }
+    lost_last_first(contents)
 }

@@ -74,9 +74,12 @@ pub fn removals(contents: &Contents, unremoved: &[u32]) -> Result<Answers, NoMem
     ensures { IfOk result (λ found. (s : Session) (h : History) → Follows s h contents.now
         → found ≡ removals s unremoved.now h) }
 {
+    let pages = contents.kept.pages.as_slice();
+    if pages.len() == 0 {
+        return Ok(ItemList::new(contents.alloc));
+    }
     let list = contents.reached()?;
     let places = contents.files(list.as_slice())?;
-    let pages = contents.kept.pages.as_slice();
     let held = numbers_at(contents.alloc, pages, places.as_slice())?;
     let asked = contents.kept.asked.as_slice();
     let found = removals_of(contents.alloc, held.as_slice(), asked, unremoved, pages)?;

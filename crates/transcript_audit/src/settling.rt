@@ -1,8 +1,8 @@
 //! What is owed after a line's own answers.
-ghost use Rattle.std.specs.Prelude.{◌≡◌, IfOk};
+ghost use Rattle.std.specs.Prelude.{◌≡◌, ◌++◌, [], IfOk, OnOk};
 ghost use Rattle.blob_model.specs.Session.{Session};
 ghost use Rattle.blob_model.specs.History.{History, said_all};
-ghost use Rattle.blob_model.specs.Settle.{settle};
+ghost use Rattle.blob_model.specs.Settle.{drops, settle};
 ghost use Rattle.history_notions.specs.FollowsCourse.{FollowsCourse};
 
 use crate::drops::drops;
@@ -15,6 +15,21 @@ use answer_text::Answers;
 use blob_words::{ItemList, NoMemory};
 use history_notions::course::Course;
 
+/// The unfinished blobs are dropped that live no more since others ended. Where nothing was owed
+/// before, none is.
+fn put_orphans(course: &mut Course, owed: &mut Answers) -> Result<(), NoMemory>
+    ensures { OnOk result ((s : Session) (h : History) → FollowsCourse s h course.old
+        → (owed.old ≡ [] → drops s h ≡ []) → (owed.new ≡ owed.old ++ drops s h)
+        × FollowsCourse s (said_all h (drops s h)) course.new) }
+{
+    if owed.len() == 0 {
+        return Ok(());
+    }
+    let orphans = drops(&course.contents)?;
+    give_all(course, owed, orphans)?;
+    Ok(())
+}
+
 /// All that is owed after a line's own answers, where the page files `unremoved` could not be
 /// removed; what is kept is then that of the history with it.
 pub fn settle(course: &mut Course, unremoved: &[u32]) -> Result<Answers, NoMemory>
@@ -25,8 +40,7 @@ pub fn settle(course: &mut Course, unremoved: &[u32]) -> Result<Answers, NoMemor
     let lost = drops(&course.contents)?;
     give_all(course, &mut owed, lost)?;
     endings(course, &mut owed)?;
-    let orphans = drops(&course.contents)?;
-    give_all(course, &mut owed, orphans)?;
+    put_orphans(course, &mut owed)?;
     let gone = removals(&course.contents, unremoved)?;
     give_all(course, &mut owed, gone)?;
     grants(course, &mut owed)?;

@@ -240,18 +240,31 @@ fn compaction_at(
     }
 }
 
-/// A job starts to move the reached pieces out of a thin page file.
-pub fn compaction(contents: &Contents) -> Result<Option<Answer>, NoMemory>
+/// A job that moves the reached pieces out of the first page file that can move.
+fn first_compaction(contents: &Contents) -> Result<Option<Answer>, NoMemory>
     ensures { IfOk result (λ found. (s : Session) (h : History) → Follows s h contents.now
-        → option_to_list found ≡ compactions s h) }
+        → found ≡ option_map (compaction s h) (movable s h)) }
 {
-    if !may_start(contents) {
-        return Ok(None);
-    }
     let list = contents.reached()?;
     let disk = contents.disk(list.as_slice())?;
     let places = contents.files(list.as_slice())?;
     let found = first_movable(contents, list.as_slice(), disk, places.as_slice())?;
     let answer = compaction_at(contents, list.as_slice(), found)?;
+    Ok(answer)
+}
+
+/// A job starts to move the reached pieces out of a thin page file.
+pub fn compaction(contents: &Contents) -> Result<Option<Answer>, NoMemory>
+    ensures { IfOk result (λ found. (s : Session) (h : History) → Follows s h contents.now
+        → option_to_list found ≡ compactions s h) }
+{
+    let pages = contents.kept.pages.as_slice();
+    if pages.len() == 0 {
+        return Ok(None);
+    }
+    if !may_start(contents) {
+        return Ok(None);
+    }
+    let answer = first_compaction(contents)?;
     Ok(answer)
 }

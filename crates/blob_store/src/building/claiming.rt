@@ -1,7 +1,9 @@
 //! The data handles that parts name.
-ghost use Rattle.std.specs.Prelude.{◌≡◌, fold};
+ghost use Rattle.std.specs.Prelude.{ℕ, ◌≡◌, ◌&&◌, fold, not, true};
+ghost use Rattle.std.specs.List.{list_any};
 ghost use Rattle.data_handles.specs.Boxes.{of_table};
-ghost use Rattle.store_laws.specs.Claiming.{claimed_by, AreFree, IsFree};
+ghost use Rattle.store_laws.specs.Claiming.{claimed_by, is_ranged, AreFree, IsFree};
+ghost use Rattle.blob_store.specs.Unheld.{HasObject};
 
 use data_handles::{Boxed, DataHandle, HandleTable};
 use session_script::Part;
@@ -10,8 +12,12 @@ use session_script::Part;
 // named.
 fn claim_one(handles: &mut HandleTable, part: &Part, is_broken: bool)
     requires { IsFree (of_table ⟦<Boxed as DataHandle>⟧.seen handles.old) part.now }
-    ensures { of_table ⟦<Boxed as DataHandle>⟧.seen handles.new
+    ensures claimed { of_table ⟦<Boxed as DataHandle>⟧.seen handles.new
         ≡ claimed_by is_broken (of_table ⟦<Boxed as DataHandle>⟧.seen handles.old) part.now }
+    ensures keeps { (k : ℕ) → HasObject (of_table ⟦<Boxed as DataHandle>⟧.seen handles.old) k
+        → HasObject (of_table ⟦<Boxed as DataHandle>⟧.seen handles.new) k }
+    ensures has { (k : ℕ) → (not is_broken && is_ranged k part.now) ≡ true
+        → HasObject (of_table ⟦<Boxed as DataHandle>⟧.seen handles.new) k }
 {
     if let Part::HandleRange { k, len, .. } = part {
         handles.claim(*k).unwrap();
@@ -24,9 +30,13 @@ fn claim_one(handles: &mut HandleTable, part: &Part, is_broken: bool)
 /// Claims the handles that the parts name, one after the other.
 pub fn claim_all(handles: &mut HandleTable, parts: &[Part], is_broken: bool)
     requires { AreFree is_broken (of_table ⟦<Boxed as DataHandle>⟧.seen handles.old) parts.now }
-    ensures { of_table ⟦<Boxed as DataHandle>⟧.seen handles.new
+    ensures claimed { of_table ⟦<Boxed as DataHandle>⟧.seen handles.new
         ≡ fold (claimed_by is_broken) (of_table ⟦<Boxed as DataHandle>⟧.seen handles.old)
-        parts.now }
+            parts.now }
+    ensures keeps { (k : ℕ) → HasObject (of_table ⟦<Boxed as DataHandle>⟧.seen handles.old) k
+        → HasObject (of_table ⟦<Boxed as DataHandle>⟧.seen handles.new) k }
+    ensures has { (k : ℕ) → (not is_broken && list_any (is_ranged k) parts.now) ≡ true
+        → HasObject (of_table ⟦<Boxed as DataHandle>⟧.seen handles.new) k }
 {
     for part in parts {
         claim_one(handles, part, is_broken);

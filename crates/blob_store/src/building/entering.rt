@@ -5,7 +5,8 @@ ghost use Rattle.blob_model.specs.Parts.{own_lengths, parts_length};
 ghost use Rattle.blob_registry.specs.Registering.{pushed, CanRegister};
 ghost use Rattle.renderer_table.specs.Table.{count_of, living_of};
 ghost use Rattle.transport_plan.specs.Spans.{piece_count};
-ghost use Rattle.blob_store.specs.Entering.{arrival_by, arrived, broken_arrival, own_by, status_by, AreAtHand, Enters};
+ghost use Rattle.store_laws.specs.Arrivals.{own_by, status_by};
+ghost use Rattle.blob_store.specs.Entering.{arrival_by, arrived, broken_arrival, AreAtHand, Enters};
 
 use super::laying::Laid;
 use super::recipe::recipe;

@@ -1,5 +1,5 @@
 -- A blob at one of the places.
-use Rattle.std.proofs.Common.{ℕ, ◌==◌, ◌∙◌}
+use Rattle.std.proofs.Common.{◌==◌, ◌∙◌}
 use Rattle.blob_model.specs.Builds.{Build}
 use Rattle.history_notions.proofs.Reaching.{any_at}
 use Rattle.transcript_audit.proofs.drops.is_named_at.Goals as goal

@@ -1,5 +1,5 @@
 -- One blob more is looked at, and at the end all were.
-use Rattle.std.proofs.Common.{◌≡◌, ℕ, ◌++◌, List, [], length, subst, ap, ◌∙◌, arith}
+use Rattle.std.proofs.Common.{◌≡◌, ◌++◌, List, [], length, subst, ap, ◌∙◌, arith}
 use Rattle.std.specs.Prelude.{slice_get}
 use Rattle.std.specs.Option.{option_map_or, option_to_list}
 use Rattle.answer_text.specs.declared.answer.Answer.{Answer}

@@ -1,7 +1,5 @@
 -- The next cell fails, or doesn't.
-use Rattle.std.proofs.Common.{◌≡◌, ℕ, Bool, true, false, List, sym, ap, ◌∙◌, arith}
-use Rattle.blob_model.specs.Builds.{Cell}
-use Rattle.transcript_audit.specs.declared.cells.At.{At}
+use Rattle.std.proofs.Common.{◌≡◌, true, sym, ◌∙◌, arith}
 use Rattle.transcript_audit.specs.Cells.{cell_of, fails_in}
 use Rattle.transcript_audit.proofs.GoodCells.{good_start, good_step, good_before, good_first, good_all, good_none}
 use Rattle.transcript_audit.proofs.failing.good_count.Goals as goal

@@ -1,7 +1,4 @@
-use Rattle.std.proofs.Common.{◌≡◌, ◌++◌, not, map, take, drop}
-use Rattle.std.specs.Prelude.{find, take_while}
-use Rattle.blob_model.specs.Builds.{Cell}
-use Rattle.transcript_audit.specs.Cells.{cell_of, fails_in}
+use Rattle.transcript_audit.specs.Cells.{fails_in}
 use Rattle.transcript_audit.proofs.GoodCells.{AreGood}
 use Rattle.transcript_audit.proofs.failing.good_count.Given as goal
 

@@ -1,5 +1,5 @@
 -- Where there is no blob nothing is put.
-use Rattle.std.proofs.Common.{◌≡◌, ℕ, ◌++◌, Option, None, List, map, sym, ap, ◌∙◌, append-nil}
+use Rattle.std.proofs.Common.{◌≡◌, ◌++◌, Option, None, map, sym, ap, ◌∙◌, append-nil}
 use Rattle.std.specs.Prelude.{slice_get}
 use Rattle.std.specs.Option.{option_to_list}
 use Rattle.std.proofs.lemmas.Option.{slice_get_past}

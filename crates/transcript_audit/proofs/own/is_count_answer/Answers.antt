@@ -1,5 +1,5 @@
 -- The five counts of the history.
-use Rattle.std.proofs.Common.{◌≡◌, ℕ, Bool, List, length, ap, ◌∙◌}
+use Rattle.std.proofs.Common.{◌≡◌, ℕ, List, length, ap, ◌∙◌}
 use Rattle.answer_text.specs.declared.answer.Answer.TheVariants as answers
 use Rattle.blob_model.specs.Builds.{Build}
 use Rattle.blob_model.specs.Entries.{Entry, entries}

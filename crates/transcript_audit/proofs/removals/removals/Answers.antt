@@ -1,5 +1,5 @@
 -- The page files of the history that hold no reached piece.
-use Rattle.std.proofs.Common.{◌≡◌, ℕ, ◌==◌, ◌&&◌, Bool, not, List, map, sym, ap, ◌∙◌}
+use Rattle.std.proofs.Common.{◌≡◌, ℕ, [], ◌==◌, ◌&&◌, Bool, not, List, map, sym, ap, ◌∙◌}
 use Rattle.std.specs.Prelude.{filter}
 use Rattle.std.specs.List.{list_any}
 use Rattle.blob_model.specs.Builds.{builds}
@@ -12,7 +12,14 @@ use Rattle.blob_model.specs.Session.{page_limit}
 use Rattle.history_notions.specs.Chosen.{items_at}
 use Rattle.history_notions.proofs.Lifted.{any_map, filter_alike}
 use Rattle.transcript_audit.specs.Owed.{is_due_in, number_of}
+use Rattle.transcript_audit.proofs.Idle.{no_items, no_removals}
 use Rattle.transcript_audit.proofs.removals.removals.Goals as goal
+
+pub returns-then-pages-eq0 : goal.returns-then-pages-eq0
+returns-then-pages-eq0 c = λ s h follows.
+    let empty : c.as_slice-pages.result.now ≡ [] = no_items c.as_slice-pages.result.now c.if-pages-eq0.true in
+    c.new.ensures
+    ∙ no_removals s c.args.unremoved.now h (sym (c.as_slice-pages.ensures ∙ follows.keeps.pages_are) ∙ empty)
 
 pub returns : goal.returns
 returns c = λ s h follows.

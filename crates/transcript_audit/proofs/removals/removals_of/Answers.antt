@@ -1,5 +1,5 @@
 -- One page file more is due, or isn't.
-use Rattle.std.proofs.Common.{◌≡◌, ℕ, ◌++◌, Bool, true, false, List, [], ◌∷◌, map, sym, ap, ◌∙◌, arith}
+use Rattle.std.proofs.Common.{ℕ, ◌++◌, Bool, List, [], ◌∷◌, sym, ap, ◌∙◌, arith}
 use Rattle.answer_text.specs.declared.answer.Answer.{Answer}
 use Rattle.blob_model.specs.Pages.{Page}
 use Rattle.blob_model.specs.Settle.{removal}

@@ -1,5 +1,5 @@
 -- Lists of other lengths differ.
-use Rattle.std.proofs.Common.{◌≡◌, ℕ, suc, Bool, true, false, ◌&&◌, List, [], ◌∷◌, length, refl, sym, ap, ◌∙◌, arith}
+use Rattle.std.proofs.Common.{◌≡◌, suc, Bool, true, false, ◌&&◌, List, [], ◌∷◌, length, refl, sym, ap, ◌∙◌}
 use Rattle.answer_text.specs.declared.answer.Answer.{Answer}
 use Rattle.transcript_audit.specs.Tests.{same_answer, same_answers}
 use Rattle.transcript_audit.proofs.same.are_same.Goals as goal

@@ -1,12 +1,12 @@
 -- The seven lists, each after the answers of those before it.
-use Rattle.std.proofs.Common.{◌≡◌, ℕ, ◌++◌, List, [], subst, sym, ap, ◌∙◌}
+use Rattle.std.proofs.Common.{◌≡◌, ℕ, ◌++◌, List, subst, sym, ap, ◌∙◌}
 use Rattle.std.specs.Option.{option_to_list}
 use Rattle.answer_text.specs.declared.answer.Answer.{Answer}
 use Rattle.blob_model.specs.History.{History, said_all}
 use Rattle.blob_model.specs.Settle.{drops, endings, removals, grants, page_jobs, compactions, settle}
-use Rattle.history_notions.specs.declared.course.Course.{Course}
 use Rattle.history_notions.specs.FollowsCourse.{FollowsCourse}
 use Rattle.transcript_audit.proofs.Passes.{said_seven, seven}
+use Rattle.transcript_audit.proofs.Idle.{no_more_drops}
 use Rattle.transcript_audit.proofs.settling.settle.Goals as goal
 
 pub returns : goal.returns
@@ -21,20 +21,15 @@ returns c = λ s h follows.
     let e2 = c.in_ok-endings.ensures s h1 f1 in
     let h2 : History = said_all h1 (endings s h1) in
     let o2 : c.endings.new.owed ≡ drops s h ++ endings s h1 = e2.0 ∙ ap (λ (list : List Answer). list ++ endings s h1) o1 in
-    let l3 : c.in_ok-orphans.orphans ≡ drops s h2 = c.in_ok-orphans.ensures s h2 e2.1.follows in
+    let e3 = c.in_ok-put_orphans.ensures s h2 e2.1 (λ none. no_more_drops s h (sym o2 ∙ none)) in
     let h3 : History = said_all h2 (drops s h2) in
-    let f3 : FollowsCourse s h3 c.give_all-2.new.course =
-    subst (λ (list : List Answer). FollowsCourse s (said_all h2 list) c.give_all-2.new.course) l3 (c.in_ok-give_all-2.ensures.follows s h2 e2.1) in
-    let o3 : c.give_all-2.new.owed ≡ (drops s h ++ endings s h1) ++ drops s h2 =
-    c.in_ok-give_all-2.ensures.owed
-    ∙ ap (λ (list : List Answer). list ++ c.in_ok-orphans.orphans) o2
-    ∙ ap (λ (list : List Answer). (drops s h ++ endings s h1) ++ list) l3 in
-    let l4 : c.in_ok-gone.gone ≡ removals s unremoved h3 = c.in_ok-gone.ensures s h3 f3.follows in
+    let o3 : c.put_orphans.new.owed ≡ (drops s h ++ endings s h1) ++ drops s h2 = e3.0 ∙ ap (λ (list : List Answer). list ++ drops s h2) o2 in
+    let l4 : c.in_ok-gone.gone ≡ removals s unremoved h3 = c.in_ok-gone.ensures s h3 e3.1.follows in
     let h4 : History = said_all h3 (removals s unremoved h3) in
-    let f4 : FollowsCourse s h4 c.give_all-3.new.course =
-    subst (λ (list : List Answer). FollowsCourse s (said_all h3 list) c.give_all-3.new.course) l4 (c.in_ok-give_all-3.ensures.follows s h3 f3) in
-    let o4 : c.give_all-3.new.owed ≡ ((drops s h ++ endings s h1) ++ drops s h2) ++ removals s unremoved h3 =
-    c.in_ok-give_all-3.ensures.owed
+    let f4 : FollowsCourse s h4 c.give_all-2.new.course =
+    subst (λ (list : List Answer). FollowsCourse s (said_all h3 list) c.give_all-2.new.course) l4 (c.in_ok-give_all-2.ensures.follows s h3 e3.1) in
+    let o4 : c.give_all-2.new.owed ≡ ((drops s h ++ endings s h1) ++ drops s h2) ++ removals s unremoved h3 =
+    c.in_ok-give_all-2.ensures.owed
     ∙ ap (λ (list : List Answer). list ++ c.in_ok-gone.gone) o3
     ∙ ap (λ (list : List Answer). ((drops s h ++ endings s h1) ++ drops s h2) ++ list) l4 in
     let e5 = c.in_ok-grants.ensures s h4 f4 in

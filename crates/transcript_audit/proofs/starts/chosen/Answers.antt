@@ -1,13 +1,12 @@
 -- The need, the room and the order of use are those of the history.
-use Rattle.std.proofs.Common.{◌≡◌, ℕ, ◌+◌, ◌-◌, List, min, ap, ◌∙◌, arith}
+use Rattle.std.proofs.Common.{◌≡◌, ◌+◌, ◌-◌, List, min, ap, ◌∙◌, arith}
 use Rattle.std.specs.Prelude.{filter_map}
 use Rattle.blob_words.specs.declared.limits.Limits.{Limits}
 use Rattle.recent_items.specs.Recent.{victims}
 use Rattle.blob_model.specs.Builds.{builds}
 use Rattle.blob_model.specs.Pieces.{Piece, pieces}
-use Rattle.blob_model.specs.Reached.{reached}
 use Rattle.blob_model.specs.Tally.{memory, memory_of, disk, disk_of}
-use Rattle.blob_model.specs.Victims.{last_uses, with_length, pageable, recency, head_bytes}
+use Rattle.blob_model.specs.Victims.{with_length, pageable, recency, head_bytes}
 use Rattle.blob_model.specs.Waits.{waits}
 use Rattle.blob_model.specs.Session.{page_limit}
 use Rattle.transcript_audit.proofs.starts.chosen.Goals as goal

@@ -1,5 +1,5 @@
 -- The arrival of a segment, found among those of all blobs.
-use Rattle.std.proofs.Common.{◌≡◌, ℕ, List, Option, sym, ap, ◌∙◌}
+use Rattle.std.proofs.Common.{ℕ, List, sym, ap, ◌∙◌}
 use Rattle.std.specs.Prelude.{slice_get}
 use Rattle.std.specs.Option.{option_map, option_and_then}
 use Rattle.transcript_audit.proofs.Arrivals.{brought_bytes, brought_among}

@@ -6,4 +6,4 @@ use Rattle.blob_store.proofs.building.claiming.claim_all.Goals as goal
 pub claim_one-requires : goal.claim_one-requires
 claim_one-requires g c =
     (free_at c.args.is_broken (of_table (seen-value (g.dyn-1.0, g.dyn-1.1)).it c.loop-part.handles) c.args.parts.now c.loop-part.part-index
-    c.part-item.result c.loop-part.invariant.1 c.loop-part-test.true c.part-item.is).0
+    c.part-item.result c.loop-part.invariant.free c.loop-part-test.true c.part-item.is).0

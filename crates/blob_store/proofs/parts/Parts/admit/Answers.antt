@@ -66,6 +66,6 @@ returns-in_ok-add_planned-in-None-clause-admits g c =
                 IsAdded c.args.renderer c.args.name c.args.kind.now plan c.args.parts.now c.args.self.now c.add_planned.new.self)
             c.in_ok-plan-in-None.ensures.value c.in_ok-add_planned-in-None.ensures.added,
           );
-      handles = c.claim_all-in-None.ensures
+      handles = c.claim_all-in-None.ensures.claimed
           ∙ ap (λ (status : Option Status). fold (claimed_by (is_some status)) table c.args.parts.now) (sym stands);
     }
