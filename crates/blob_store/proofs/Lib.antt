@@ -67,6 +67,5 @@ pub mod Moving
 pub mod Touching
 pub mod HeardSteps
 pub mod SeenEntered
-pub mod SeenPlanned
 pub mod SeenBroken
 pub mod HeardBuilds

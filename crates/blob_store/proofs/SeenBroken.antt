@@ -1,10 +1,8 @@
 -- A blob that broke at its line is the new one of the laws, and the parts with it are theirs.
-use Rattle.std.proofs.Common.{◌≡◌, ℕ, ◌+◌, List, length, refl, sym, ap, subst, ◌∙◌, Option, None}
+use Rattle.std.proofs.Common.{◌≡◌, ℕ, List, length, refl, sym, ap, subst, ◌∙◌, None}
 use Rattle.blob_words.specs.declared.number.RendererId.{RendererId}
 use Rattle.blob_words.specs.declared.status.Status.{Status}
 use Rattle.session_script.specs.declared.event.Part.{Part}
-use Rattle.item_shares.specs.declared.shares.Share.{Share}
-use Rattle.renderer_table.specs.Counted.{ChangesCount}
 use Rattle.blob_model.specs.History.{History}
 use Rattle.blob_model.specs.Session.{Session}
 use Rattle.slice_rule.specs.Kind.{kept_type}
@@ -32,20 +30,17 @@ module _ (renderer : RendererId) (name : ℕ) (kind : List ℕ) (why : Status) (
   shares_still : now.shares ≡ old.shares
   shares_still = ap (λ (parts : Parts). parts.shares) breaks.rest
 
-  pub handed_broken : ChangesCount (λ (count : ℕ). count + 1) renderer.0 name old.renderers now.renderers
-  handed_broken = breaks.counts
-
   -- the parts with it are those of the laws
   pub broken_seen : length old.registry.names ≡ length old.registry.entries → (s : Session) (h later : History) (first : ℕ) → old.limits ≡ s.limits
       → first_piece old ≡ first
-      → ((now : List (Option Share)) → IsEntered s later (made s h renderer name kind line) now (broken_entry renderer kind why) (settled_row None 0 first line))
+      → IsEntered s later (made s h renderer name kind line) now.shares (broken_entry renderer kind why) (settled_row None 0 first line)
       → counted (parts_of now)
       ≡ counted (grown_parts s later (made s h renderer name kind line) (broken_entry renderer kind why) (settled_row None 0 first line) old.shares
       now.renderers now.quota.used (parts_of old))
   broken_seen sized s h later first limits first_is entered =
       let row : row_of new.row ≡ settled_row None 0 first line = ap (λ (number : ℕ). settled_row None 0 number line) first_is in
       let stands : IsEntered s later (made s h renderer name kind line) now.shares new.entry (row_of new.row) =
-      subst (λ (one : RowSaid). IsEntered s later (made s h renderer name kind line) now.shares new.entry one) (sym row) (entered now.shares) in
+      subst (λ (one : RowSaid). IsEntered s later (made s h renderer name kind line) now.shares new.entry one) (sym row) entered in
       ap counted
       (seen_entered new renderer.0 old now grows (broken_fits renderer name (kept_type kind) why line old now whole can breaks).row_fits s limits later
       (made s h renderer name kind line) refl stands (sym sized ∙ sym whole.blobs.each_row)
