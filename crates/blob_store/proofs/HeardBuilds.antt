@@ -186,7 +186,7 @@ module _ (s : Session) (groups : List Group) (legal : IsLegalFrom s start groups
           (broken_now s groups legal event renderer name kind line adds now.shares why at)
 
     -- with the answer that the history calls for, where the parts stand for the history with it
-    heard_one : IsOwn s h event (build_answer s h renderer.0 name line ∷ []) → (answer : Answer) → build_answer s h renderer.0 name line ≡ answer
+    pub heard_one : IsOwn s h event (build_answer s h renderer.0 name line ∷ []) → (answer : Answer) → build_answer s h renderer.0 name line ≡ answer
         → after h event (answer ∷ []) ≡ heard h event answer → (grown : PartsSaid) (claims_now : Table) → counted (parts_of now) ≡ grown
         → Between s later (stood (page_limit s) h event (build_answer s h renderer.0 name line ∷ [])) grown told claims_now
         → IsHeard s h event (answer ∷ []) (scene now told claims_now)

@@ -69,3 +69,4 @@ pub mod HeardSteps
 pub mod SeenEntered
 pub mod SeenBroken
 pub mod HeardBuilds
+pub mod HeardSlices
