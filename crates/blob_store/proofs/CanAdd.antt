@@ -297,11 +297,11 @@ pub breaks_so : (parts : Parts) (table : Table) (renderer name : ℕ) (line : Li
 breaks_so parts table renderer name line why is =
     some_that (λ (status : Status). is_broken status ≡ true)
     (
-      (list_any (is_invalid_in (parts_of parts) table renderer name) line || nat_lt (2 ^ 62) (parts_length line), statuses.InvalidArguments)
-      ∷ (list_any (is_lost_in (parts_of parts) renderer) line, statuses.ReferencedBlobBroken)
-      ∷ (list_any (is_unrecorded_in (parts_of parts)) line, statuses.ReferencedFileUnavailable)
-      ∷ (is_out_of_memory (plan_in (parts_of parts) line), statuses.OutOfMemory)
-      ∷ []
+    (list_any (is_invalid_in (parts_of parts) table renderer name) line || nat_lt (2 ^ 62) (parts_length line), statuses.InvalidArguments)
+    ∷ (list_any (is_lost_in (parts_of parts) renderer) line, statuses.ReferencedBlobBroken)
+    ∷ (list_any (is_unrecorded_in (parts_of parts)) line, statuses.ReferencedFileUnavailable)
+    ∷ (is_out_of_memory (plan_in (parts_of parts) line), statuses.OutOfMemory)
+    ∷ []
     )
     why (refl, (refl, (refl, (refl, tt)))) is
 
@@ -310,14 +310,14 @@ pub few_bytes : (parts : Parts) (table : Table) (renderer name : ℕ) (line : Li
     → parts_length line ≤ 2 ^ 62
 few_bytes parts table renderer name line stands =
     let tests = none_applies
-        (
-          (list_any (is_invalid_in (parts_of parts) table renderer name) line || nat_lt (2 ^ 62) (parts_length line), statuses.InvalidArguments)
-          ∷ (list_any (is_lost_in (parts_of parts) renderer) line, statuses.ReferencedBlobBroken)
-          ∷ (list_any (is_unrecorded_in (parts_of parts)) line, statuses.ReferencedFileUnavailable)
-          ∷ (is_out_of_memory (plan_in (parts_of parts) line), statuses.OutOfMemory)
-          ∷ []
-        )
-        stands in
+    (
+    (list_any (is_invalid_in (parts_of parts) table renderer name) line || nat_lt (2 ^ 62) (parts_length line), statuses.InvalidArguments)
+    ∷ (list_any (is_lost_in (parts_of parts) renderer) line, statuses.ReferencedBlobBroken)
+    ∷ (list_any (is_unrecorded_in (parts_of parts)) line, statuses.ReferencedFileUnavailable)
+    ∷ (is_out_of_memory (plan_in (parts_of parts) line), statuses.OutOfMemory)
+    ∷ []
+    )
+    stands in
     ltb-false (2 ^ 62) (parts_length line)
     (or_parts (list_any (is_invalid_in (parts_of parts) table renderer name) line) (nat_lt (2 ^ 62) (parts_length line)) tests.0).1
 

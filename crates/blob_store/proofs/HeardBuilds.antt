@@ -13,6 +13,7 @@ use Rattle.session_script.specs.declared.event.Part.{Part}
 use Rattle.answer_text.specs.declared.answer.Answer.{Answer}
 use Rattle.answer_text.specs.declared.answer.Answer.TheVariants as answers
 use Rattle.answer_text.specs.declared.group.Group.{Group}
+use Rattle.answer_text.specs.declared.refusal.Refusal.{Refusal}
 use Rattle.data_handles.specs.Table.{Table}
 use Rattle.page_disk.specs.declared.change.Change.{Change}
 use Rattle.item_shares.specs.Weights.{weights}
@@ -39,7 +40,7 @@ use Rattle.store_laws.specs.BuiltStands.{broken_parts, planned_parts}
 use Rattle.store_laws.specs.Claiming.{claimed_by}
 use Rattle.store_laws.specs.Deciding.{build_refusal_in, line_status_in, line_weight_in, plan_in}
 use Rattle.store_laws.specs.DecidingLaws.{AreHeldThere}
-use Rattle.store_laws.specs.EntryLaws.{coming_row, AreBrought}
+use Rattle.store_laws.specs.EntryLaws.{broken_entry, coming_row, settled_row, AreBrought}
 use Rattle.store_laws.specs.LineLaws.{counted}
 use Rattle.store_laws.specs.NewItems.{own_items, range_items}
 use Rattle.store_laws.specs.PartLaws.{AreRanges}
@@ -49,11 +50,12 @@ use Rattle.store_laws.specs.Uses.{facts_of}
 use Rattle.store_laws.proofs.BuildLines.{build_breaks, build_comes, build_passes}
 use Rattle.store_laws.proofs.Building.{builds_add, listed_are_there}
 use Rattle.store_laws.proofs.LineRead.{broken_read, build_silent, plan_read, planned_read, status_read}
+use Rattle.store_laws.proofs.Decided.{builds_decided}
 use Rattle.store_laws.proofs.LineRefusals.{own_accepted}
 use Rattle.store_laws.proofs.NewBlobs.{build_fits, items_new, planned_now}
 use Rattle.store_laws.proofs.NewRows.{broken_now}
-use Rattle.blob_store.specs.Adding.{new_blob, Breaks, CanAdd, CanBreak, IsAdded}
-use Rattle.blob_store.specs.Admitting.{Admits, ComesBy, MayCome}
+use Rattle.blob_store.specs.Adding.{broken_blob, new_blob, Breaks, CanAdd, CanBreak, IsAdded}
+use Rattle.blob_store.specs.Admitting.{Admits, ComesBy}
 use Rattle.blob_store.specs.Laying.{first_piece, sending_by, slot_of}
 use Rattle.blob_store.specs.NewBlobs.{Grows, NewBlob}
 use Rattle.blob_store.specs.Says.{scene, IsHeard}
@@ -61,9 +63,8 @@ use Rattle.blob_store.specs.Seen.{coming_of, parts_of, row_of}
 use Rattle.blob_store.specs.Whole.{with_line, Whole}
 use Rattle.blob_store.specs.declared.parts.Parts.{Parts}
 use Rattle.blob_store.proofs.AddedWhole.{added_fits, added_grows}
+use Rattle.blob_store.proofs.Breaking.{broken_fits, broken_grows}
 use Rattle.blob_store.proofs.Rooting.{rooted}
-use Rattle.blob_store.proofs.CanAdd.{breaks_so}
-use Rattle.blob_store.proofs.SeenBroken.{broken_seen}
 use Rattle.blob_store.proofs.SeenEntered.{seen_entered}
 use Rattle.blob_store.proofs.SeenGrown.{grown_added}
 
@@ -76,6 +77,23 @@ comes_with (plans.File n) slots = refl
 comes_with plans.OutOfMemory slots = refl
 comes_with (plans.TooMany what) slots = refl
 
+-- a blob that is held stands
+pub held_stand : (parts : Parts) → Whole parts → AreHeldThere (parts_of parts)
+held_stand parts whole renderer name some =
+    by (entry_of parts.registry name) (rooted parts.registry parts.renderers parts.urls parts.readers renderer name (whole.holders.roots name) some)
+  where
+    by : (held : Option Entry) → IsSomeAnd held (λ (entry : Entry). 0 < entry.roots) → IsSome held
+    by None is = absurd is
+    by (Some entry) is = refl
+
+-- why the line is refused is what the history says
+pub build_known : (s : Session) (groups : List Group) (renderer : RendererId) (name : ℕ) (kind : List ℕ) (line : List Part) (parts : Parts)
+    (told : Option (List Change)) (table : Table) → Whole parts → Stands s (history_from start groups) (parts_of parts) told table → {found : Option Refusal}
+    → build_refusal_in (parts_of parts) table renderer name line ≡ found
+    → refusal s (history_from start groups) (events.Build renderer name kind line) ≡ found
+build_known s groups renderer name kind line parts told table whole stands is =
+    sym (builds_decided.build s (history_from start groups) (parts_of parts) told table (held_stand parts whole) stands renderer name kind line) ∙ is
+
 module _ (s : Session) (groups : List Group) (legal : IsLegalFrom s start groups) (renderer : RendererId) (name : ℕ) (kind : List ℕ) (line : List Part)
     (old now : Parts) (told : Option (List Change)) (table : Table) (whole : Whole old) (next : Whole (with_line now))
     (sized : length old.registry.names ≡ length old.registry.entries) (stands : Stands s (history_from start groups) (parts_of old) told table) where
@@ -84,14 +102,6 @@ module _ (s : Session) (groups : List Group) (legal : IsLegalFrom s start groups
 
   abbrev first : ℕ
   first = length (pieces (page_limit s) h)
-
-  pub there : AreHeldThere (parts_of old)
-  there renderer name some =
-      by (entry_of old.registry name) (rooted old.registry old.renderers old.urls old.readers renderer name (whole.holders.roots name) some)
-    where
-      by : (held : Option Entry) → IsSomeAnd held (λ (entry : Entry). 0 < entry.roots) → IsSome held
-      by None is = absurd is
-      by (Some entry) is = refl
 
   page_is : old.limits.page ≡ page_limit s
   page_is = ap (λ (limits : Limits). limits.page) stands.between.same_limits
@@ -118,7 +128,7 @@ module _ (s : Session) (groups : List Group) (legal : IsLegalFrom s start groups
       abbrev blob : NewBlob
       blob = new_blob renderer name (kept_type kind) plan line old added.laid
 
-      grows : Grows blob renderer.0 old now
+      pub grows : Grows blob renderer.0 old now
       grows = added_grows renderer name (kept_type kind) plan line old now added can
 
       same_shares : added.between.shares ≡ now.shares
@@ -155,7 +165,7 @@ module _ (s : Session) (groups : List Group) (legal : IsLegalFrom s start groups
           (subst (λ (one : Coming). IsEntered s later build now.shares
           (planned_entry renderer kind plan line (page_limit s) first added.laid.ranges added.laid.pieces)
           (coming_row (Some plan) (line_weight_in (parts_of old) line) first line one)) coming
-          (planned_now s groups legal event renderer name kind line adds s.limits.some_page at plan planned fits (parts_of old) told table there stands
+          (planned_now s groups legal event renderer name kind line adds s.limits.some_page at plan planned fits (parts_of old) told table (held_stand old whole) stands
           now.shares added.laid.ranges added.laid.pieces ranges brought)))
 
       pub weighs : (weight : Item → ℕ)
@@ -180,10 +190,21 @@ module _ (s : Session) (groups : List Group) (legal : IsLegalFrom s start groups
     -- a blob that breaks at its line
     module _ (why : Status) (at : line_status s h renderer.0 name line ≡ Some why) (can : CanBreak renderer name why old)
         (breaks : Breaks renderer name (kept_type kind) why line old now) where
-      pub seen_broken : counted (parts_of now) ≡ broken_parts s h later renderer name kind line why now.renderers now.quota.used (parts_of old)
-      seen_broken =
-          broken_seen renderer name kind why line old now whole can breaks sized s h later first stands.between.same_limits first_is
+      broken_entered : IsEntered s later build now.shares (broken_entry renderer kind why) (settled_row None 0 (first_piece old) line)
+      broken_entered =
+          subst (λ (number : ℕ). IsEntered s later build now.shares (broken_entry renderer kind why) (settled_row None 0 number line)) (sym first_is)
           (broken_now s groups legal event renderer name kind line adds now.shares why at)
+
+      pub broken_seen : counted (parts_of now) ≡ broken_parts s h later renderer name kind line why now.renderers now.quota.used (parts_of old)
+      broken_seen =
+          let same : now.shares ≡ old.shares = ap (λ (parts : Parts). parts.shares) breaks.rest in
+          ap counted
+          (seen_entered (broken_blob renderer name (kept_type kind) why line old) renderer.0 old now
+          (broken_grows renderer name (kept_type kind) why line old now whole can breaks)
+          (broken_fits renderer name (kept_type kind) why line old now whole can breaks).row_fits s stands.between.same_limits later build refl
+          broken_entered rows_so next)
+          ∙ (λ i. counted (grown_parts s later build (broken_entry renderer kind why) (settled_row None 0 (first_is i) line) (same i) now.renderers
+          now.quota.used (parts_of old)))
 
     -- with the answer that the history calls for, where the parts stand for the history with it
     pub heard_one : IsOwn s h event (build_answer s h renderer.0 name line ∷ []) → (answer : Answer) → build_answer s h renderer.0 name line ≡ answer
@@ -203,7 +224,7 @@ module _ (s : Session) (groups : List Group) (legal : IsLegalFrom s start groups
 module _ (s : Session) (groups : List Group) (legal : IsLegalFrom s start groups) (renderer : RendererId) (name : ℕ) (kind : List ℕ) (line : List Part)
     (old now : Parts) (told : Option (List Change)) (table : Table) (whole : Whole old) (next : Whole (with_line now))
     (sized : length old.registry.names ≡ length old.registry.entries) (stands : Stands s (history_from start groups) (parts_of old) told table)
-    (accepted : build_refusal_in (parts_of old) table renderer name line ≡ None) (may : MayCome renderer name line old table) where
+    (accepted : build_refusal_in (parts_of old) table renderer name line ≡ None) where
   abbrev before : History
   before = history_from start groups
 
@@ -211,7 +232,7 @@ module _ (s : Session) (groups : List Group) (legal : IsLegalFrom s start groups
   event = events.Build renderer name kind line
 
   held : AreHeldThere (parts_of old)
-  held = there s groups legal renderer name kind line old now told table whole next sized stands
+  held = held_stand old whole
 
   passes : refusal s before event ≡ None
   passes = build_passes s groups legal renderer name kind line (parts_of old) told table held stands accepted
@@ -228,17 +249,15 @@ module _ (s : Session) (groups : List Group) (legal : IsLegalFrom s start groups
   abbrev plan_now : Plan
   plan_now = plan_in (parts_of old) line
 
-  broke : (why : Status) → line_status_in (parts_of old) table renderer.0 name line ≡ Some why → Breaks renderer name (kept_type kind) why line old now
-      → IsHeard s before event (answers.Broken name why ∷ []) (scene now told (fold (claimed_by true) table line))
-  broke why is breaks =
+  broke : (why : Status) → line_status_in (parts_of old) table renderer.0 name line ≡ Some why → CanBreak renderer name why old
+      → Breaks renderer name (kept_type kind) why line old now → IsHeard s before event (answers.Broken name why ∷ []) (scene now told (fold (claimed_by true) table line))
+  broke why is can breaks =
       let at = status_read s before (parts_of old) told table held stands renderer name line silent (Some why) is in
-      let can : CanBreak renderer name why old =
-      record { alive = may.alive; fresh = may.fresh; broken = breaks_so old table renderer.0 name line why is } in
       heard_one s groups legal renderer name kind line old now told table whole next sized stands event adds own (answers.Broken name why)
       (broken_read s before (parts_of old) told table held stands renderer name line silent why is) refl
       (broken_parts s before (heard before event (build_answer s before renderer.0 name line)) renderer name kind line why now.renderers now.quota.used
       (parts_of old)) (fold (claimed_by true) table line)
-      (seen_broken s groups legal renderer name kind line old now told table whole next sized stands event adds why at can breaks)
+      (broken_seen s groups legal renderer name kind line old now told table whole next sized stands event adds why at can breaks)
       (build_breaks s groups legal renderer name kind line (parts_of old) told table held stands accepted now.renderers breaks.counts now.quota.used why is)
 
   comes : line_status_in (parts_of old) table renderer.0 name line ≡ None → CanAdd renderer name plan_now line old
@@ -254,7 +273,7 @@ module _ (s : Session) (groups : List Group) (legal : IsLegalFrom s start groups
       added.laid.pieces now.shares now.renderers now.quota.used (parts_of old)) (fold (claimed_by false) table line)
       (seen s groups legal renderer name kind line old now told table whole next sized stands event adds at planned fits can added)
       (build_comes s groups legal renderer name kind line (parts_of old) told table held stands accepted now.renderers
-      (added_grows renderer name (kept_type kind) plan_now line old now added can).counts now.quota.used s.limits.some_page plan_now is refl now.shares
+      (grows s groups legal renderer name kind line old now told table whole next sized stands event adds at planned fits can added).counts now.quota.used s.limits.some_page plan_now is refl now.shares
       added.laid.ranges added.laid.pieces
       (came s groups legal renderer name kind line old now told table whole next sized stands event adds at planned fits can added)
       (ranges s groups legal renderer name kind line old now told table whole next sized stands event adds at planned fits can added)
@@ -272,7 +291,7 @@ module _ (s : Session) (groups : List Group) (legal : IsLegalFrom s start groups
           subst (λ (one : Answer). IsHeard s before event (one ∷ []) (scene now told later)) (sym answer_is)
           (subst (λ (claims_now : Table). IsHeard s before event (answers.Planned plan_now ∷ []) (scene now told claims_now)) (sym later_is)
           (comes is can added))
-      by (Some why) is (answer_is, breaks) later_is =
+      by (Some why) is (answer_is, can, breaks) later_is =
           subst (λ (one : Answer). IsHeard s before event (one ∷ []) (scene now told later)) (sym answer_is)
           (subst (λ (claims_now : Table). IsHeard s before event (answers.Broken name why ∷ []) (scene now told claims_now)) (sym later_is)
-          (broke why is breaks))
+          (broke why is can breaks))

@@ -67,6 +67,7 @@ pub mod Moving
 pub mod Touching
 pub mod HeardSteps
 pub mod SeenEntered
-pub mod SeenBroken
 pub mod HeardBuilds
 pub mod HeardSlices
+pub mod MayCome
+pub mod Objects

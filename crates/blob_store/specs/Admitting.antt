@@ -11,7 +11,7 @@ use Rattle.renderer_table.specs.Table.{living_of}
 use Rattle.blob_model.specs.Choice.{first_that}
 use Rattle.blob_model.specs.Parts.{claims}
 use Rattle.store_laws.specs.Deciding.{line_status_in, many_in, plan_in, slot_tests_in, stands_in}
-use Rattle.blob_store.specs.Adding.{Breaks, CanAdd, IsAdded}
+use Rattle.blob_store.specs.Adding.{Breaks, CanAdd, CanBreak, IsAdded}
 use Rattle.store_laws.specs.Claiming.{claimed_by}
 use Rattle.blob_store.specs.Seen.{parts_of}
 use Rattle.blob_store.specs.declared.parts.Parts.{Parts}
@@ -28,7 +28,8 @@ abbrev pub ComesBy : RendererId → ℕ → List ℕ → List Part → Parts →
 ComesBy renderer name kind line old answer now None =
     (answer ≡ answers.Planned (plan_in (parts_of old) line)) × CanAdd renderer name (plan_in (parts_of old) line) line old
     × IsAdded renderer name kind (plan_in (parts_of old) line) line old now
-ComesBy renderer name kind line old answer now (Some why) = (answer ≡ answers.Broken name why) × Breaks renderer name kind why line old now
+ComesBy renderer name kind line old answer now (Some why) = (answer ≡ answers.Broken name why) × CanBreak renderer name why old
+    × Breaks renderer name kind why line old now
 
 -- it comes so, and its data handles are claimed
 pub record Admits (renderer : RendererId) (name : ℕ) (kind : List ℕ) (line : List Part) (old : Parts) (table : Table) (answer : Answer) (now : Parts)

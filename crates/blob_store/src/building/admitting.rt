@@ -30,6 +30,8 @@ impl Parts {
         requires may { MayCome renderer name parts.now self.old
             (of_table ⟦<Boxed as DataHandle>⟧.seen handles.old) }
         ensures whole { OnOk result (IsWhole (with_line self.new)) }
+        ensures objects { OnOk result (HaveObjects self.new.shares
+            (of_table ⟦<Boxed as DataHandle>⟧.seen handles.new)) }
         ensures admits { IfOk result (λ answer. Admits renderer name kind.now parts.now self.old
             (of_table ⟦<Boxed as DataHandle>⟧.seen handles.old) answer self.new
             (of_table ⟦<Boxed as DataHandle>⟧.seen handles.new)) }

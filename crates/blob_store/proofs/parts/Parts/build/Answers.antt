@@ -1,0 +1,31 @@
+-- A blob that isn't refused may come, and is heard.
+use Rattle.std.proofs.Common.{◌≡◌, List, [], ◌∷◌, length, sym, ap, subst, ◌∙◌, Option, None}
+use Rattle.session_script.specs.declared.event.Event.TheVariants as events
+use Rattle.answer_text.specs.declared.answer.Answer.{Answer}
+use Rattle.data_handles.specs.Boxes.{of_table}
+use Rattle.data_handles.specs.Table.{Table}
+use Rattle.data_handles.specs.contracts.boxed.BoxedDataHandle.TheImpl.{seen-value}
+use Rattle.page_disk.specs.declared.change.Change.{Change}
+use Rattle.blob_store.specs.Says.{Says}
+use Rattle.blob_store.specs.Whole.{IsWhole}
+use Rattle.blob_store.proofs.Heard.{heard_refused}
+use Rattle.blob_store.proofs.HeardBuilds.{build_known, heard_built}
+use Rattle.blob_store.proofs.MayCome.{may_build}
+use Rattle.blob_store.proofs.parts.Parts.build.Goals as goal
+
+pub admit-requires-clause-may : goal.admit-requires-clause-may
+admit-requires-clause-may g c =
+    may_build c.args.self.now (of_table (seen-value (g.dyn-1.0, g.dyn-1.1)).it c.args.handles.now) c.args.renderer c.args.name c.args.parts.now
+    (sym c.in_ok-why.ensures ∙ c.in_default.is)
+
+pub returns-in-Some-clause-says : goal.returns-in-Some-clause-says
+unfolding Says IsWhole
+returns-in-Some-clause-says g c told s groups legal still stands =
+    heard_refused s groups c.args.self.now told (of_table (seen-value (g.dyn-1.0, g.dyn-1.1)).it c.args.handles.now) legal stands
+    (events.Build c.args.renderer c.args.name c.args.kind.now c.args.parts.now) c.in-Some.why
+    (build_known s groups c.args.renderer c.args.name c.args.kind.now c.args.parts.now c.args.self.now told
+    (of_table (seen-value (g.dyn-1.0, g.dyn-1.1)).it c.args.handles.now) c.requires.whole stands (sym c.in_ok-why.ensures ∙ c.in-Some.is))
+
+pub returns-clause-says : goal.returns-clause-says
+unfolding Says IsWhole
+returns-clause-says g c = ?
