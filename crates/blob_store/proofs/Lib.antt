@@ -68,5 +68,6 @@ pub mod Touching
 pub mod HeardSteps
 pub mod SeenEntered
 pub mod HeardBuilds
+pub mod HeardSlices
 pub mod MayCome
 pub mod Objects
