@@ -209,7 +209,7 @@ module _ (renderer : RendererId) (name : ℕ) (kind : List ℕ) (plan : Plan) (l
       owned = λ pending. own_found page (first_piece old) laid.ranges line;
       unused = λ pending piece past within. unused_past old.shares old.homes piece old.recent past whole.stored.order;
     };
-    known = steps_known old.registry page (first_piece old) laid.ranges line can.there;
+    known = (can.fits, steps_known old.registry page (first_piece old) laid.ranges line can.there);
     weighed =
         let light = recipe_light old.registry (row_weights old.rows) (parts_of old) (weights_said old) (first_piece old) laid.ranges line
         (ranges_many plan line old laid now.shares came) can.there in

@@ -211,7 +211,7 @@ module _ (new : NewBlob) (renderer : ℕ) (old now : Parts) (grows : Grows new r
       → cut_weight names (row_weights rows) entry.recipe ≡ cut_weight old.registry.names (row_weights old.rows) entry.recipe
   cut_same entry known =
       ap (λ (list : List ℕ). cut_weight names list entry.recipe) weights_more
-      ∙ cut_still old.registry.names (new.name ∷ []) (row_weights old.rows) (new.row.weight ∷ []) entry.recipe many_weights known
+      ∙ cut_still old.registry.names (new.name ∷ []) (row_weights old.rows) (new.row.weight ∷ []) entry.recipe many_weights known.1
 
   weighed : AreWeighed (pushed old.registry new.name new.entry) (row_weights rows)
   weighed = stands_more AreLight old.registry.entries new.entry
@@ -259,7 +259,7 @@ module _ (new : NewBlob) (renderer : ℕ) (old now : Parts) (grows : Grows new r
         ∙ sym (waiting_more old.registry.names old.rows new.name new.row blobs.each_row);
     known = stands_more (λ (number : ℕ). AreKnown names) old.registry.entries new.entry
         (λ number. if_so (AreKnown old.registry.names) (AreKnown names) (entry_at old.registry.entries number)
-        (λ entry at is. more_known entry.recipe is) (blobs.known number)) (more_known new.entry.recipe fits.known);
+        (λ entry at is. (is.0, more_known entry.recipe is.1)) (blobs.known number)) (fits.known.0, more_known new.entry.recipe fits.known.1);
     weighed = weighed;
   }
     where

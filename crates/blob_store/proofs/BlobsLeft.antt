@@ -289,7 +289,7 @@ module _ (page : ℕ) (book : Book) (shares later : List (Option Share)) (rows :
     known_one (Some entry) true is = go (is_broken entry.status)
       where
         go : (b : Bool) → AreKnown book.names (cond b (record entry { recipe = []; own = None; views = [] }) entry)
-        go true = tt
+        go true = (is.0, tt)
         go false = is
 
     known_left : (number : ℕ) → IfSome (entry_at now_book.entries number) (AreKnown book.names)

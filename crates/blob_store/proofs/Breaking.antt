@@ -85,7 +85,7 @@ module _ (renderer : RendererId) (name : ℕ) (kind : List ℕ) (why : Status) (
         owned = λ pending. absurd (not_both why can.broken pending);
         unused = λ pending. absurd (not_both why can.broken pending);
       };
-      known = tt;
+      known = (omega arith, tt);
       weighed = omega arith;
     };
   }

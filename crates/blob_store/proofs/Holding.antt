@@ -109,7 +109,10 @@ module _ (change : Entry → Entry) (reroots : Reroots change) where
     awaited = λ other. awaited_changed page order change awaits_still book.entries number other (slice_get rows other) (blobs.awaited other);
     waits = blobs.waits;
     known = λ other. held_changed (AreKnown book.names) change
-        (λ entry is. subst (λ (steps : List Step). AllByRecursion (IsKnown book.names) steps) (sym (reroots.recipe entry)) is) book.entries number other
+        (λ entry is. (
+          subst (λ (n : ℕ). n ≤ 2 ^ 62) (sym (reroots.size entry)) is.0,
+          subst (λ (steps : List Step). AllByRecursion (IsKnown book.names) steps) (sym (reroots.recipe entry)) is.1,
+        )) book.entries number other
         (blobs.known other);
     weighed = λ other. held_changed
         (λ (entry : Entry). length (held_views entry) + cut_weight book.names (row_weights rows) entry.recipe ≤ slice_index (row_weights rows) other)

@@ -1,5 +1,5 @@
 -- What the entries of a store keep with the items that they view, and with the rows beside them. Own.
-use Rattle.std.specs.Prelude.{ℕ, ◌≡◌, ◌+◌, ◌<◌, ◌≤◌, Bool, false, true, List, filter, flat_map, length, slice_get, slice_index, Option, None, Some, IfSome, IsSome, IsSomeAnd}
+use Rattle.std.specs.Prelude.{ℕ, ◌≡◌, ◌+◌, ◌<◌, ◌≤◌, ◌^◌, Bool, false, true, List, filter, flat_map, length, slice_get, slice_index, Option, None, Some, IfSome, IsSome, IsSomeAnd}
 use Rattle.std.specs.List.{AllByRecursion}
 use Rattle.blob_words.specs.declared.status.Status.{Status}
 use Rattle.blob_words.specs.declared.status.Status.TheVariants.{PendingQuota, PendingTransport}
@@ -47,14 +47,15 @@ pub record Views (shares : List (Option Share)) (entry : Entry) : Type 0 where
   pub inside : AllByRecursion (IsInside shares) (held_views entry)
   pub there : AllByRecursion (λ (view : View). IfSome (item_at shares view.slot) IsThere) entry.views
 
--- each blob that a step is of was built
+-- the blob that a step is of was built
 abbrev pub IsKnown : List ℕ → Step → Type 0
 IsKnown names (Own piece len) = Unit {0}
 IsKnown names (Fixed view) = Unit {0}
 IsKnown names (Source name off len) = IsSome (number_of name names)
 
+-- an entry has so many bytes at most, and its steps are of blobs that were built
 abbrev pub AreKnown : List ℕ → Entry → Type 0
-AreKnown names entry = AllByRecursion (IsKnown names) entry.recipe
+AreKnown names entry = (entry.size ≤ 2 ^ 62) × AllByRecursion (IsKnown names) entry.recipe
 
 -- the weights of the blobs bound the views that each entry has or will have
 abbrev pub AreWeighed : Book → List ℕ → Type 0

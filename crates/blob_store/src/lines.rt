@@ -15,6 +15,7 @@ mod pass;
 mod read;
 mod refusals;
 mod revoke;
+mod slice;
 mod spawn;
 mod stat;
 mod touching;
