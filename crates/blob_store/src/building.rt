@@ -6,6 +6,7 @@ mod admitting;
 mod claiming;
 pub mod entering;
 mod homes;
+pub mod kind;
 mod law;
 pub mod laying;
 mod own;

@@ -32,7 +32,7 @@ pub fn claim_all(handles: &mut HandleTable, parts: &[Part], is_broken: bool)
     requires { AreFree is_broken (of_table ⟦<Boxed as DataHandle>⟧.seen handles.old) parts.now }
     ensures claimed { of_table ⟦<Boxed as DataHandle>⟧.seen handles.new
         ≡ fold (claimed_by is_broken) (of_table ⟦<Boxed as DataHandle>⟧.seen handles.old)
-            parts.now }
+        parts.now }
     ensures keeps { (k : ℕ) → HasObject (of_table ⟦<Boxed as DataHandle>⟧.seen handles.old) k
         → HasObject (of_table ⟦<Boxed as DataHandle>⟧.seen handles.new) k }
     ensures has { (k : ℕ) → (not is_broken && list_any (is_ranged k) parts.now) ≡ true

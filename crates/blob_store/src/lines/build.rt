@@ -3,12 +3,12 @@ ghost use Rattle.std.specs.Prelude.{◌≡◌, ◌^◌, ◌<◌, [], ◌∷◌, 
 ghost use Rattle.data_handles.specs.Boxes.{of_table};
 ghost use Rattle.blob_store.specs.Unheld.{HaveObjects};
 
+use crate::building::kind::kept_kind;
 use crate::parts::Parts;
 use answer_text::Answer;
 use blob_words::{BlobName, NoMemory, Octets, RendererId};
 use data_handles::{Boxed, DataHandle, HandleTable};
 use session_script::Part;
-use slice_rule::normal_type;
 
 impl Parts {
     ghost use Rattle.page_disk.specs.declared.change.Change.{Change};
@@ -40,8 +40,9 @@ impl Parts {
         if let Some(why) = self.build_refusal(handles, renderer, name, parts)? {
             return Ok(Answer::Refused(why));
         }
-        let mut kept = Octets::from_slice(self.alloc, kind.as_slice())?;
-        let len = normal_type(kept.as_mut_slice());
-        self.admit(handles, renderer, name, &kept.as_slice()[..len], parts)
+        let kept = kept_kind(self.alloc, kind.as_slice())?;
+        let _count = self.registry.registered(); // says that there are as many names as entries
+        let answer = self.admit(handles, renderer, name, kept.as_slice(), parts)?;
+        Ok(answer)
     }
 }
