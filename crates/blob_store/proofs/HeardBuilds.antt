@@ -165,8 +165,8 @@ module _ (s : Session) (groups : List Group) (legal : IsLegalFrom s start groups
           (subst (λ (one : Coming). IsEntered s later build now.shares
           (planned_entry renderer kind plan line (page_limit s) first added.laid.ranges added.laid.pieces)
           (coming_row (Some plan) (line_weight_in (parts_of old) line) first line one)) coming
-          (planned_now s groups legal event renderer name kind line adds s.limits.some_page at plan planned fits (parts_of old) told table (held_stand old whole) stands
-          now.shares added.laid.ranges added.laid.pieces ranges brought)))
+          (planned_now s groups legal event renderer name kind line adds s.limits.some_page at plan planned fits (parts_of old) told table
+          (held_stand old whole) stands now.shares added.laid.ranges added.laid.pieces ranges brought)))
 
       pub weighs : (weight : Item → ℕ)
           → weights weight now.shares ≡ weights weight old.shares + sum_by weight (range_items line ++ own_items (page_limit s) first plan line)
@@ -182,7 +182,8 @@ module _ (s : Session) (groups : List Group) (legal : IsLegalFrom s start groups
           stands.between.same_limits later build refl entered rows_so next)
           ∙ (λ i. counted (grown_parts s later build
           (planned_entry renderer kind plan line (page_is i) (first_is i) added.laid.ranges added.laid.pieces)
-          (coming_row (Some plan) (line_weight_in (parts_of old) line) (first_is i) line (sym coming i)) now.shares now.renderers now.quota.used (parts_of old)))
+          (coming_row (Some plan) (line_weight_in (parts_of old) line) (first_is i) line (sym coming i)) now.shares now.renderers now.quota.used
+          (parts_of old)))
 
       pub came : AreAdded (pieces (page_limit s) later) (facts_of s later) first old.shares now.shares
       came = grown_added blob renderer.0 old now grows next (pieces (page_limit s) later) (facts_of s later) first news
@@ -250,7 +251,8 @@ module _ (s : Session) (groups : List Group) (legal : IsLegalFrom s start groups
   plan_now = plan_in (parts_of old) line
 
   broke : (why : Status) → line_status_in (parts_of old) table renderer.0 name line ≡ Some why → CanBreak renderer name why old
-      → Breaks renderer name (kept_type kind) why line old now → IsHeard s before event (answers.Broken name why ∷ []) (scene now told (fold (claimed_by true) table line))
+      → Breaks renderer name (kept_type kind) why line old now
+      → IsHeard s before event (answers.Broken name why ∷ []) (scene now told (fold (claimed_by true) table line))
   broke why is can breaks =
       let at = status_read s before (parts_of old) told table held stands renderer name line silent (Some why) is in
       heard_one s groups legal renderer name kind line old now told table whole next sized stands event adds own (answers.Broken name why)
@@ -273,7 +275,8 @@ module _ (s : Session) (groups : List Group) (legal : IsLegalFrom s start groups
       added.laid.pieces now.shares now.renderers now.quota.used (parts_of old)) (fold (claimed_by false) table line)
       (seen s groups legal renderer name kind line old now told table whole next sized stands event adds at planned fits can added)
       (build_comes s groups legal renderer name kind line (parts_of old) told table held stands accepted now.renderers
-      (grows s groups legal renderer name kind line old now told table whole next sized stands event adds at planned fits can added).counts now.quota.used s.limits.some_page plan_now is refl now.shares
+      (grows s groups legal renderer name kind line old now told table whole next sized stands event adds at planned fits can added).counts
+      now.quota.used s.limits.some_page plan_now is refl now.shares
       added.laid.ranges added.laid.pieces
       (came s groups legal renderer name kind line old now told table whole next sized stands event adds at planned fits can added)
       (ranges s groups legal renderer name kind line old now told table whole next sized stands event adds at planned fits can added)

@@ -84,7 +84,8 @@ module _ (s : Session) (groups : List Group) (legal : IsLegalFrom s start groups
   plan = plan_in (parts_of old) line
 
   broke : (why : Status) → line_status_in (parts_of old) table renderer.0 name line ≡ Some why → CanBreak renderer name why old
-      → Breaks renderer name (kept_type kind) why line old now → IsHeard s before event (answers.Broken name why ∷ []) (scene now told (fold (claimed_by true) table line))
+      → Breaks renderer name (kept_type kind) why line old now
+      → IsHeard s before event (answers.Broken name why ∷ []) (scene now told (fold (claimed_by true) table line))
   broke why is can breaks =
       let at = status_read s before (parts_of old) told table held stands renderer name line refl (Some why) is in
       heard_one s groups legal renderer name kind line old now told table whole next sized stands event adds own (answers.Broken name why)
@@ -109,7 +110,8 @@ module _ (s : Session) (groups : List Group) (legal : IsLegalFrom s start groups
       added.laid.pieces now.shares now.renderers now.quota.used (parts_of old)) (fold (claimed_by false) table line)
       (seen s groups legal renderer name kind line old now told table whole next sized stands event adds at planned fits can added)
       (slice_comes s groups legal renderer name source from to kind (parts_of old) told table held stands accepted now.renderers
-      (grows s groups legal renderer name kind line old now told table whole next sized stands event adds at planned fits can added).counts now.quota.used s.limits.some_page plan is refl now.shares
+      (grows s groups legal renderer name kind line old now told table whole next sized stands event adds at planned fits can added).counts
+      now.quota.used s.limits.some_page plan is refl now.shares
       added.laid.ranges added.laid.pieces
       (came s groups legal renderer name kind line old now told table whole next sized stands event adds at planned fits can added)
       (ranges s groups legal renderer name kind line old now told table whole next sized stands event adds at planned fits can added)
