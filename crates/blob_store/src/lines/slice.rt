@@ -37,4 +37,38 @@ impl Parts {
             len,
         }
     }
+
+    /// A renderer builds a blob as a slice of another one. After want of memory the parts are only
+    /// to be dropped.
+    #[tactic(auto, unfolding(crate::specs::Whole::IsWhole))]
+    pub fn slice(
+        &mut self,
+        handles: &mut HandleTable,
+        renderer: RendererId,
+        name: BlobName,
+        source: BlobName,
+        start: Option<i64>,
+        end: Option<i64>,
+        kind: &Octets,
+    ) -> Result<Answer, NoMemory>
+        requires whole { IsWhole self.old }
+        requires objects { HaveObjects self.old.shares
+            (of_table ⟦<Boxed as DataHandle>⟧.seen handles.old) }
+        ensures whole { OnOk result (IsWhole (with_line self.new)) }
+        ensures objects { OnOk result (HaveObjects self.new.shares
+            (of_table ⟦<Boxed as DataHandle>⟧.seen handles.new)) }
+        ensures says { IfOk result (λ answer. (told : Option (List Change))
+            → Says (events.Slice renderer name source start end kind.now) (answer ∷ [])
+            (scene self.old told (of_table ⟦<Boxed as DataHandle>⟧.seen handles.old))
+            (scene self.new told (of_table ⟦<Boxed as DataHandle>⟧.seen handles.new))) }
+    {
+        let parts = [self.slice_part(source, start, end)];
+        if let Some(why) = self.slice_refusal(handles, renderer, name, source, &parts)? {
+            return Ok(Answer::Refused(why));
+        }
+        let kept = kept_kind(self.alloc, kind.as_slice())?;
+        let _count = self.registry.registered(); // says that there are as many names as entries
+        let answer = self.admit(handles, renderer, name, kept.as_slice(), &parts)?;
+        Ok(answer)
+    }
 }
