@@ -1,17 +1,14 @@
 -- A blob that can be added is laid down and entered.
-use Rattle.std.proofs.Common.{◌≡◌, ℕ, ◌+◌, ◌<◌, ◌≤◌, ◌^◌, true, false, List, length, sum_by, refl, sym, ap, subst, ◌∙◌, Option, None, Some, arith, inr}
+use Rattle.std.proofs.Common.{◌≡◌, ℕ, ◌<◌, ◌^◌, true, false, List, length, refl, sym, ap, subst, ◌∙◌, Option, None, arith, inr}
 use Rattle.std.specs.Option.{option_map_or, option_and_then}
-use Rattle.std.specs.List.{AllByRecursion}
 use Rattle.blob_words.specs.declared.number.RendererId.{RendererId}
 use Rattle.blob_words.specs.declared.plan.Plan.{Plan}
 use Rattle.blob_words.specs.declared.plan.Plan.TheVariants as plans
 use Rattle.session_script.specs.declared.event.Part.{Part}
 use Rattle.blob_entries.specs.Book.{Book, entry_at, entry_of}
-use Rattle.blob_entries.specs.Contents.{step_len}
 use Rattle.blob_entries.specs.Names.{number_of}
 use Rattle.blob_entries.specs.Statuses.{is_pending}
 use Rattle.blob_entries.specs.declared.entry.Entry.{Entry}
-use Rattle.blob_entries.specs.declared.step.Step.{Step}
 use Rattle.blob_registry.specs.Registering.{CanRegister}
 use Rattle.quota_queue.specs.Queue.{is_waiting}
 use Rattle.renderer_table.specs.Table.{count_of}

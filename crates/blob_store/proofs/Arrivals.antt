@@ -1,11 +1,11 @@
 -- The steps of a blob that comes: how long they are, what they take, and which views are theirs.
-use Rattle.std.proofs.Common.{◌≡◌, ℕ, zero, suc, ◌+◌, ◌<◌, ◌≤◌, ◌^◌, Bool, true, false, List, [], ◌∷◌, ◌++◌, length, sum, sum_by, refl, sym, ap, subst, ◌∙◌, Option, Some, None, IsSomeAnd, cond, arith, ◌||◌}
-use Rattle.std.specs.List.{AllByRecursion, list_any}
+use Rattle.std.proofs.Common.{◌≡◌, ℕ, zero, suc, ◌+◌, ◌<◌, ◌≤◌, Bool, true, false, List, [], ◌∷◌, ◌++◌, length, sum, sum_by, refl, sym, ap, subst, ◌∙◌, Option, Some, None, IsSomeAnd, cond, arith, ◌||◌}
+use Rattle.std.specs.List.{AllByRecursion}
 use Rattle.std.specs.Prelude.{nat_eq}
 use Rattle.std.specs.Option.{option_and_then, option_map}
 use Rattle.std.proofs.lemmas.List.{append-nil}
 use Rattle.std.proofs.lemmas.List.Folds.{list_any-append}
-use Rattle.std.proofs.lemmas.List.Sums.{sum-map, sum_by-append, sum_by-cons}
+use Rattle.std.proofs.lemmas.List.Sums.{sum-map, sum_by-cons}
 use Rattle.session_script.specs.declared.event.Part.{Part}
 use Rattle.session_script.specs.declared.event.Part.TheVariants.{Embedded, Asked, FileRange, BlobRange, HandleRange}
 use Rattle.item_shares.specs.declared.shares.Share.{Share}
@@ -136,7 +136,8 @@ module _ (book : Book) (sized : length book.names ≡ length book.entries) where
     where
       by : (found : Option ℕ) → number_of b book.names ≡ found
           → IsSomeAnd (option_and_then (entry_at book.entries) found) (λ (entry : Entry). off + len ≤ entry.size)
-          → IsSomeAnd found (λ (source : ℕ). (source < length book.entries) × IsSomeAnd (entry_at book.entries source) (λ (entry : Entry). off + len ≤ entry.size))
+          → IsSomeAnd found (λ (source : ℕ).
+          (source < length book.entries) × IsSomeAnd (entry_at book.entries source) (λ (entry : Entry). off + len ≤ entry.size))
       by None is there = absurd there
       by (Some source) is there = (omega (arith, number_within b book.names source is, sized), there)
 

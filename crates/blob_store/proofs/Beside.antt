@@ -16,7 +16,7 @@ use Rattle.store_laws.specs.Weights.{memory_weight}
 use Rattle.blob_store.specs.declared.row.Row.{Row}
 use Rattle.blob_store.specs.declared.row.Sending.{Sending}
 use Rattle.blob_store.specs.declared.row.Sending.TheVariants.{Settled, Waiting, Gathering, Writing}
-use Rattle.blob_store.specs.Rows.{bytes_gathered, gathered_bytes, pins, sending_slots}
+use Rattle.blob_store.specs.Rows.{bytes_gathered, gathered_bytes, sending_slots}
 use Rattle.blob_store.specs.Seen.{coming_of, row_of, rows_beside}
 use Rattle.blob_store.specs.Blobs.{Blobs, IsAwaited}
 

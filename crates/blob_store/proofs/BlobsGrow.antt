@@ -32,7 +32,7 @@ use Rattle.blob_store.specs.declared.row.Row.{Row}
 use Rattle.blob_store.specs.Blobs.{AreKnown, AreWeighed, Blobs, Charged, IsAwaited, IsInside, IsKnown, IsThere, Views}
 use Rattle.blob_store.specs.NewBlobs.{EntryFits, Grows, NewBlob, RowFits}
 use Rattle.blob_store.specs.Putting.{is_seen}
-use Rattle.blob_store.specs.Rows.{gathered_bytes, gathered_pieces, pins, waiting, waits_by}
+use Rattle.blob_store.specs.Rows.{gathered_bytes, gathered_pieces, pins, waits_by}
 use Rattle.blob_store.specs.Stored.{row_weights}
 use Rattle.blob_store.proofs.OneMore.{each_more, if_both, if_so, pins_more, stands_more, views_more, waiting_more}
 use Rattle.blob_store.proofs.Putting.{on_none}

@@ -1,5 +1,5 @@
 -- A blob that breaks at its line fits the parts.
-use Rattle.std.proofs.Common.{◌≡◌, ℕ, ◌+◌, ◌<◌, ◌≤◌, true, false, List, [], ◌∷◌, ◌++◌, length, sum, sum_by, refl, sym, ap, subst, ◌∙◌, Option, arith}
+use Rattle.std.proofs.Common.{◌≡◌, ℕ, ◌+◌, true, List, [], ◌∷◌, ◌++◌, length, sum_by, refl, sym, ap, subst, ◌∙◌, Option, arith}
 use Rattle.std.proofs.lemmas.List.{append-nil}
 use Rattle.blob_words.specs.declared.number.RendererId.{RendererId}
 use Rattle.blob_words.specs.declared.status.Status.{Status}
@@ -7,7 +7,7 @@ use Rattle.blob_words.specs.declared.status.Status.TheVariants as statuses
 use Rattle.session_script.specs.declared.event.Part.{Part}
 use Rattle.item_shares.specs.declared.shares.Share.{Share}
 use Rattle.blob_entries.specs.Statuses.{is_broken, is_pending}
-use Rattle.store_laws.specs.Weights.{memory_weight, piece_weight, range_weight, reserved_weight}
+use Rattle.store_laws.specs.Weights.{memory_weight, piece_weight, reserved_weight}
 use Rattle.blob_registry.specs.Registering.{pushed}
 use Rattle.blob_store.specs.Adding.{broken_blob, Breaks, CanBreak}
 use Rattle.blob_store.specs.Entering.{arrived, broken_arrival}

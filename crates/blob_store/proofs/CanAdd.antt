@@ -1,6 +1,6 @@
 -- A line that builds, is not refused and doesn't break adds a blob that can be added.
-use Rattle.std.proofs.Common.{◌≡◌, ℕ, zero, suc, ◌+◌, ◌-◌, ◌<◌, ◌≤◌, ◌^◌, ◌==◌, ◌&&◌, ◌||◌, Bool, true, false, not, List, [], ◌∷◌, ◌++◌, length, sum_by, refl, sym, ap, subst, ◌∙◌, Option, Some, None, IsSome, IsSomeAnd, cond, arith}
-use Rattle.std.specs.Prelude.{is_none, is_some, nat_lt, nat_le}
+use Rattle.std.proofs.Common.{◌≡◌, ℕ, zero, suc, ◌+◌, ◌<◌, ◌≤◌, ◌^◌, ◌==◌, ◌&&◌, ◌||◌, Bool, true, false, not, List, [], ◌∷◌, length, sum_by, refl, sym, ap, subst, ◌∙◌, Option, Some, None, IsSome, IsSomeAnd, cond, arith}
+use Rattle.std.specs.Prelude.{is_none, nat_lt}
 use Rattle.std.specs.Option.{option_map_or}
 use Rattle.std.specs.Int.{div_ceil}
 use Rattle.std.specs.List.{AllByRecursion, list_any}
@@ -17,9 +17,7 @@ use Rattle.blob_words.specs.declared.status.Status.TheVariants as statuses
 use Rattle.session_script.specs.declared.event.Part.{Part}
 use Rattle.session_script.specs.declared.event.Part.TheVariants.{Embedded, Asked, FileRange, BlobRange, HandleRange}
 use Rattle.answer_text.specs.declared.refusal.Refusal.{Refusal}
-use Rattle.answer_text.specs.declared.refusal.Refusal.TheVariants as refusals
 use Rattle.item_shares.specs.Weights.{weights}
-use Rattle.item_shares.specs.declared.item.Item.{Item}
 use Rattle.item_shares.specs.declared.item.Item.TheVariants.{File, Range}
 use Rattle.item_shares.specs.declared.shares.Share.{Share}
 use Rattle.blob_entries.specs.Book.{entry_of}

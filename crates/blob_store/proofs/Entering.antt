@@ -1,6 +1,6 @@
 -- What stands under the name of a blob that has just come.
-use Rattle.std.proofs.Common.{◌≡◌, ℕ, true, false, Bool, List, [], ◌∷◌, ◌++◌, length, sym, ap, ◌∙◌, refl, Option, Some, None, IsSomeAnd, cond, subst, arith, ◌≢◌, ◌<◌, ◌^◌}
-use Rattle.std.specs.Prelude.{nat_eq, set, slice_index_or}
+use Rattle.std.proofs.Common.{◌≡◌, ℕ, true, Bool, List, [], ◌∷◌, ◌++◌, length, sym, ap, ◌∙◌, refl, Option, Some, None, IsSomeAnd, cond, subst, arith, ◌≢◌, ◌<◌, ◌^◌}
+use Rattle.std.specs.Prelude.{nat_eq, set}
 use Rattle.std.specs.Option.{option_map, option_map_or, option_and_then}
 use Rattle.std.proofs.Math.Seq.{set-append_seam}
 use Rattle.std.proofs.lemmas.Bool.Decides.{nat_tests}

@@ -23,7 +23,7 @@ use Rattle.blob_items.specs.declared.view.View.{View}
 use Rattle.blob_entries.specs.Book.{entry_of}
 use Rattle.blob_entries.specs.declared.entry.Entry.{Entry}
 use Rattle.slice_rule.specs.Kind.{kept_type}
-use Rattle.blob_model.specs.Builds.{Build, builds}
+use Rattle.blob_model.specs.Builds.{Build}
 use Rattle.blob_model.specs.Construct.{build_answer, line_status, plan_for}
 use Rattle.blob_model.specs.History.{History, after, heard, history_from, start}
 use Rattle.blob_model.specs.Legal.{IsLegalFrom}

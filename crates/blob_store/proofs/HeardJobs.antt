@@ -1,5 +1,5 @@
 -- Lines that end the job in flight are heard.
-use Rattle.std.proofs.Common.{◌≡◌, true, false, [], ◌∷◌, Option, None, Some, cond, ap, refl, subst, sym, ◌∙◌, inl}
+use Rattle.std.proofs.Common.{◌≡◌, true, false, [], ◌∷◌, Option, None, Some, cond, ap, refl, ◌∙◌, inl}
 use Rattle.std.specs.Prelude.{List}
 use Rattle.blob_words.specs.declared.number.JobNo.{JobNo}
 use Rattle.session_script.specs.declared.event.Event.TheVariants as events

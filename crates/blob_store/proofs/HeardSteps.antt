@@ -1,6 +1,6 @@
 -- A step of a reader was heard.
-use Rattle.std.proofs.Common.{◌≡◌, ℕ, ◌+◌, ◌-◌, ◌==◌, Bool, true, false, List, [], ◌∷◌, map, length, min, Option, Some, None, cond, refl, sym, ap, subst, ◌∙◌, arith}
-use Rattle.std.specs.Prelude.{is_none, IfSome, if◌then◌else◌}
+use Rattle.std.proofs.Common.{◌≡◌, ℕ, ◌+◌, ◌-◌, ◌==◌, Bool, true, false, List, [], ◌∷◌, map, length, min, Option, Some, None, refl, sym, ap, subst, ◌∙◌, arith}
+use Rattle.std.specs.Prelude.{is_none, if◌then◌else◌}
 use Rattle.std.specs.Option.{option_map}
 use Rattle.std.specs.List.{AllByRecursion}
 use Rattle.std.proofs.lemmas.Bool.{eqb-true}
@@ -11,7 +11,6 @@ use Rattle.session_script.specs.declared.event.Event.TheVariants as events
 use Rattle.answer_text.specs.declared.answer.Answer.{Answer}
 use Rattle.answer_text.specs.declared.answer.Answer.TheVariants as answers
 use Rattle.answer_text.specs.declared.group.Group.{Group}
-use Rattle.answer_text.specs.declared.refusal.Refusal.{Refusal}
 use Rattle.answer_text.specs.declared.refusal.Refusal.TheVariants as refusals
 use Rattle.blob_entries.specs.Book.{changed, entry_of, Book}
 use Rattle.blob_entries.specs.Changes.{held_less}
@@ -28,7 +27,7 @@ use Rattle.blob_model.specs.History.{after, heard, history_from, start, History}
 use Rattle.blob_model.specs.Legal.{IsLegalFrom}
 use Rattle.blob_model.specs.Live.{is_live}
 use Rattle.blob_model.specs.Own.{IsAccepted}
-use Rattle.blob_model.specs.Readers.{reader_at as reader_said, OpenReader as ReaderSaid}
+use Rattle.blob_model.specs.Readers.{OpenReader as ReaderSaid}
 use Rattle.blob_model.specs.Refusals.{refusal}
 use Rattle.blob_model.specs.Session.{page_limit, Session}
 use Rattle.blob_model.proofs.Lists.{false_true}
@@ -89,7 +88,8 @@ module _ (s : Session) (groups : List Group) (parts : Parts) (told : Option (Lis
   unmarked = none_marked s groups (is_live (page_limit s) h) (parts_of parts) told table legal stands.between
 
   -- why it can't step
-  step_due : (reader : ReaderId) → refusal s h (events.Step reader) ≡ (if is_none (reader_at reader.0 parts.readers) then Some (refusals.NoReader reader) else None)
+  step_due : (reader : ReaderId)
+      → refusal s h (events.Step reader) ≡ (if is_none (reader_at reader.0 parts.readers) then Some (refusals.NoReader reader) else None)
   step_due reader =
       ap (λ (found : Option ReaderSaid). first_that ((is_none found, refusals.NoReader reader) ∷ []))
       (sym (stands.between.tables.readers_stand.each reader.0) ∙ open_seen reader.0 parts.readers)

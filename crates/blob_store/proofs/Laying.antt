@@ -1,5 +1,5 @@
 -- What the items of own pieces weigh, and what is laid down of a blob.
-use Rattle.std.proofs.Common.{◌≡◌, ◌≢◌, ℕ, ◌+◌, ◌<◌, ◌≤◌, false, List, [], ◌∷◌, ◌++◌, length, map, replicate, sum, sum_by, refl, sym, ap, subst, ◌∙◌, Option, arith}
+use Rattle.std.proofs.Common.{◌≡◌, ◌≢◌, ℕ, ◌+◌, ◌≤◌, false, List, [], ◌∷◌, ◌++◌, length, map, replicate, sum, sum_by, refl, sym, ap, subst, ◌∙◌, Option, arith}
 use Rattle.std.specs.List.{AllByRecursion}
 use Rattle.std.proofs.lemmas.List.{append-nil, length-map}
 use Rattle.std.proofs.lemmas.List.Sums.{sum-map, sum_by-cons}
@@ -11,7 +11,6 @@ use Rattle.item_shares.specs.declared.item.Item.TheVariants.{Memory, Reserved}
 use Rattle.item_shares.specs.declared.shares.Share.{Share}
 use Rattle.blob_items.specs.declared.view.View.{View}
 use Rattle.blob_model.specs.Parts.{embedded, own_bytes, own_lengths}
-use Rattle.quota_queue.specs.Queue.{Queue}
 use Rattle.segment_assembly.specs.Assembly.{bytes_at}
 use Rattle.transport_plan.specs.Spans.{piece_count, piece_spans}
 use Rattle.store_laws.specs.EntryLaws.{all_lengths, AreBrought}
@@ -132,7 +131,8 @@ module _ (name : ℕ) (line : List Part) (old : Parts) (mid : List (Option Share
         is ∙ (λ i. shaped now.shares (old.homes ++ map slot_of pieces) (old.quota.used + sym (inline_sum told) i) (sym (append-nil old.quota.waiting) i)
         (reserves i) (old.held + inline_many pieces now.shares brought i))
 
-    pub laid_inline : (plan : Plan) (pieces : List View) (now : Parts) → HasRoom plan line old → ((n : ℕ) → plan ≢ plans.Shared n) → ((n : ℕ) → plan ≢ plans.File n)
+    pub laid_inline : (plan : Plan) (pieces : List View) (now : Parts) → HasRoom plan line old → ((n : ℕ) → plan ≢ plans.Shared n)
+        → ((n : ℕ) → plan ≢ plans.File n)
         → ArePut mid (inline_items page first line) pieces now.shares → AreBrought now.shares first (all_lengths page line) pieces
         → now ≡ shaped now.shares (old.homes ++ map slot_of pieces) (old.quota.used + own_bytes line) old.quota.waiting old.pages.reserved
         (old.held + length pieces)

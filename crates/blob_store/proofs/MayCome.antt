@@ -47,7 +47,8 @@ module _ (parts : Parts) (table : Table) (renderer : RendererId) (name : ℕ) (l
   pub may_build : build_refusal_in (parts_of parts) table renderer name line ≡ None → MayCome renderer name line parts table
   may_build accepted =
       let tests : Fail (no_renderer_in (parts_of parts) renderer ∷ name_used_in (parts_of parts) name ∷ slots ++ (many_blobs_in (parts_of parts) ∷ much)) =
-      none_applies (no_renderer_in (parts_of parts) renderer ∷ name_used_in (parts_of parts) name ∷ slots ++ (many_blobs_in (parts_of parts) ∷ much)) accepted in
+      none_applies (no_renderer_in (parts_of parts) renderer ∷ name_used_in (parts_of parts) name ∷ slots ++ (many_blobs_in (parts_of parts) ∷ much))
+      accepted in
       record {
         alive = some_so (living_of renderer.0 parts.renderers) tests.0;
         fresh = none_so (number_of name parts.registry.names) tests.1.0;

@@ -1,6 +1,6 @@
 -- The refusals of a `build` line, test by test.
-use Rattle.std.proofs.Common.{◌≡◌, ℕ, ◌<◌, ◌≤◌, Bool, true, false, List, [], ◌∷◌, ◌++◌, length, ap, ◌∙◌, Option, Some, None, arith}
-use Rattle.std.specs.Prelude.{is_none, is_some, nat_le}
+use Rattle.std.proofs.Common.{◌≡◌, ℕ, ◌<◌, ◌≤◌, Bool, false, List, ◌∷◌, ◌++◌, length, ap, ◌∙◌, Option, Some, None}
+use Rattle.std.specs.Prelude.{is_none, is_some}
 use Rattle.std.proofs.lemmas.Bool.{le-leb, lt-leb}
 use Rattle.blob_words.specs.declared.bounds.TheConstants.{MOST_BLOBS}
 use Rattle.blob_words.specs.declared.counted.Counted.TheVariants as counted

@@ -1,7 +1,7 @@
 -- The weight of what stands under a number, read off the rows.
-use Rattle.std.proofs.Common.{◌≡◌, ℕ, zero, suc, Bool, true, false, List, [], ◌∷◌, refl, ap, sym, ◌∙◌, Option, Some, None, Bor}
+use Rattle.std.proofs.Common.{◌≡◌, ℕ, zero, suc, true, false, List, [], ◌∷◌, refl, ap, sym, ◌∙◌, Option, Some, None, Bor}
 use Rattle.std.specs.Prelude.{is_none, option_and_then, slice_get, slice_index_or}
-use Rattle.std.specs.Option.{option_copied, option_map, option_map_or}
+use Rattle.std.specs.Option.{option_copied, option_map_or}
 use Rattle.blob_entries.specs.Book.{entry_at}
 use Rattle.blob_entries.specs.Names.{number_of}
 use Rattle.blob_entries.specs.declared.entry.Entry.{Entry}
@@ -9,7 +9,7 @@ use Rattle.store_laws.specs.Deciding.{weight_in}
 use Rattle.store_laws.specs.Rows.{Row as RowSaid}
 use Rattle.blob_store.specs.declared.parts.Parts.{Parts}
 use Rattle.blob_store.specs.declared.row.Row.{Row}
-use Rattle.blob_store.specs.Seen.{parts_of, row_of, rows_beside}
+use Rattle.blob_store.specs.Seen.{parts_of, rows_beside}
 
 abbrev weighs : Option RowSaid → ℕ
 weighs found = option_map_or (λ (row : RowSaid). row.weight) found 0

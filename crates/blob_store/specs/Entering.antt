@@ -2,14 +2,12 @@
 use Rattle.std.specs.Prelude.{ℕ, ◌≡◌, ◌+◌, List, [], ◌∷◌, ◌++◌, Option, None, Some}
 use Rattle.blob_words.specs.declared.number.RendererId.{RendererId}
 use Rattle.blob_words.specs.declared.plan.Plan.{Plan}
-use Rattle.blob_words.specs.declared.plan.Plan.TheVariants as plans
 use Rattle.blob_words.specs.declared.status.Status.{Status}
 use Rattle.blob_words.specs.declared.status.Status.TheVariants as statuses
 use Rattle.session_script.specs.declared.event.Part.{Part}
 use Rattle.blob_items.specs.declared.view.View.{View}
 use Rattle.blob_entries.specs.Sound.{AreOwn}
 use Rattle.blob_entries.specs.declared.entry.Entry.{Entry}
-use Rattle.blob_entries.specs.declared.step.Step.{Step}
 use Rattle.blob_registry.specs.Registering.{pushed}
 use Rattle.blob_model.specs.Parts.{own_lengths, parts_length}
 use Rattle.renderer_table.specs.Counted.{ChangesCount}

@@ -1,9 +1,7 @@
 -- What is laid down of a blob that comes, before its entry is there. Own.
-use Rattle.std.specs.Prelude.{ℕ, ◌≡◌, ◌+◌, ◌≤◌, ◌<◌, false, List, [], ◌++◌, ◌∷◌, length, map, replicate, sum_by, Some}
+use Rattle.std.specs.Prelude.{ℕ, ◌≡◌, ◌+◌, ◌≤◌, false, List, ◌++◌, length, map, replicate, sum_by, Some}
 use Rattle.blob_words.specs.declared.plan.Plan.{Plan}
 use Rattle.blob_words.specs.declared.plan.Plan.TheVariants as plans
-use Rattle.blob_words.specs.declared.status.Status.{Status}
-use Rattle.blob_words.specs.declared.status.Status.TheVariants as statuses
 use Rattle.session_script.specs.declared.event.Part.{Part}
 use Rattle.item_shares.specs.Shares.{share_at, share_of}
 use Rattle.item_shares.specs.declared.item.Item.{Item}
@@ -11,7 +9,7 @@ use Rattle.blob_items.specs.declared.view.View.{View}
 use Rattle.blob_model.specs.Parts.{embedded, own_bytes, own_lengths}
 use Rattle.page_files.specs.Files.{room}
 use Rattle.transport_plan.specs.Spans.{piece_count}
-use Rattle.store_laws.specs.EntryLaws.{all_lengths, AreBrought}
+use Rattle.store_laws.specs.EntryLaws.{AreBrought}
 use Rattle.store_laws.specs.PartLaws.{AreRanges}
 use Rattle.store_laws.specs.Weights.{memory_weight, piece_weight, reserved_weight}
 use Rattle.store_laws.specs.Arrivals.{lengths_by}

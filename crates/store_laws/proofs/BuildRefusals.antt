@@ -1,9 +1,9 @@
 -- Which refusal applies to a line that builds, as the parts of a store tell.
-use Rattle.std.proofs.Common.{◌≡◌, ℕ, zero, suc, ◌+◌, ◌<◌, ◌==◌, ◌&&◌, ◌||◌, Bool, true, false, not, List, [], ◌∷◌, ◌++◌, length, map, refl, ap, subst, sym, ◌∙◌, Option, Some, None, cond, arith}
-use Rattle.std.specs.Prelude.{◌^◌, is_none, is_some, min, drop, nat_le, nat_lt, option_and_then, slice_get, slice_index_or, sum_by, if◌then◌else◌, ℤ, IsSome}
+use Rattle.std.proofs.Common.{◌≡◌, ℕ, suc, ◌+◌, ◌==◌, ◌&&◌, ◌||◌, Bool, true, false, not, List, [], ◌∷◌, ◌++◌, length, map, refl, ap, subst, sym, ◌∙◌, Option, Some, None, cond, arith}
+use Rattle.std.specs.Prelude.{◌^◌, is_none, is_some, min, drop, nat_le, nat_lt, option_and_then, slice_get, slice_index_or, ℤ}
 use Rattle.std.specs.Option.{option_map, option_map_or}
 use Rattle.std.specs.Int.{div_ceil}
-use Rattle.std.specs.List.{list_any, AllByRecursion}
+use Rattle.std.specs.List.{list_any}
 use Rattle.std.proofs.lemmas.Bool.{eq-eqb, eqb-true, leb-false, ltb-true, or_parts}
 use Rattle.std.proofs.lemmas.List.{length-map}
 use Rattle.std.proofs.lemmas.List.Sums.{sum_by-cons}
@@ -33,20 +33,19 @@ use Rattle.blob_model.specs.Construct.{is_invalid, is_lost_source, is_out_of_mem
 use Rattle.blob_model.specs.Handles.{has_handle}
 use Rattle.blob_model.specs.History.{History}
 use Rattle.blob_model.specs.Parts.{claims, own_lengths, parts_length, sources}
-use Rattle.blob_model.specs.Pieces.{Piece, pieces}
-use Rattle.blob_model.specs.Refusals.{claimed, is_in, is_many_segments, many_pieces, many_segments, many_views, name_used, no_handle, no_renderer, piece_total, refusal, slot_refusals, stands_at_line, too_many_blobs, weight_total}
+use Rattle.blob_model.specs.Refusals.{claimed, is_in, is_many_segments, many_views, name_used, no_handle, no_renderer, piece_total, refusal, slot_refusals, stands_at_line, too_many_blobs, weight_total}
 use Rattle.blob_model.specs.Renderers.{is_alive}
 use Rattle.blob_model.specs.Session.{Session, Slot, page_limit}
 use Rattle.blob_model.specs.Standing.{is_broken as is_broken_now}
 use Rattle.blob_model.proofs.Lists.{get_there, not_false}
 use Rattle.blob_model.proofs.legal.Totals.{pieces_counted}
-use Rattle.store_laws.specs.Deciding.{build_refusal_in, holds, size_under, slice_line, slice_refusal_in, line_status_in, line_weight_in, many_blobs_in, many_in, many_pieces_in, many_segments_in, many_views_in, name_used_in, no_handle_in, no_renderer_in, part_weight_in, plan_in, row_in, slot_tests_in, slot_tests, stands_in, weight_in}
+use Rattle.store_laws.specs.Deciding.{build_refusal_in, holds, size_under, slice_line, slice_refusal_in, line_weight_in, many_blobs_in, many_in, many_views_in, name_used_in, no_handle_in, no_renderer_in, part_weight_in, plan_in, slot_tests_in, slot_tests, stands_in, weight_in}
 use Rattle.store_laws.specs.DecidingLaws.{AreHeldThere}
 use Rattle.store_laws.specs.Items.{holds_slot}
-use Rattle.store_laws.specs.Outlines.{outline, outline_of, Outline}
+use Rattle.store_laws.specs.Outlines.{outline, outline_of}
 use Rattle.store_laws.specs.Rows.{bare, row_of, Row}
 use Rattle.store_laws.specs.Stands.{Between, Parts, Reaches}
-use Rattle.store_laws.specs.Tables.{seen_as, slot_now, slot_seen}
+use Rattle.store_laws.specs.Tables.{slot_now, slot_seen}
 use Rattle.store_laws.proofs.Deciding.{holds_known, plan_known, slots_free, status_known, AreUnclaimed, Seen}
 use Rattle.store_laws.proofs.LineRefusals.{alive_known}
 use Rattle.store_laws.proofs.Paired.{first_of, rest_of, AreOutlined}

@@ -1,5 +1,5 @@
 -- What is held is what is reached.
-use Rattle.std.proofs.Common.{◌≡◌, ℕ, ◌+◌, ◌==◌, ◌⊎◌, Bool, true, false, ◌&&◌, ◌||◌, not, List, []}
+use Rattle.std.proofs.Common.{◌≡◌, ℕ, ◌+◌, ◌==◌, Bool, true, false, ◌&&◌, ◌||◌, not, List, []}
 use Rattle.std.proofs.Common.{◌∷◌, map, refl, ap, subst, sym, ◌∙◌, Option, Some, None, ⊎_elim, cond, length, zero-add}
 use Rattle.std.specs.Prelude.{count_by, filter, find, flat_map, IfSome, IsSomeAnd}
 use Rattle.std.specs.Option.{option_map_or}

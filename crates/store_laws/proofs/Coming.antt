@@ -1,5 +1,5 @@
 -- A piece that is to come is on its way to a page file or gathered, and one that is on its way or gathered an entry has.
-use Rattle.std.proofs.Common.{◌≡◌, ℕ, ◌==◌, ◌⊎◌, Bool, true, false, ◌||◌, List, [], ◌∷◌, map, refl, ap, subst, sym, ◌∙◌, Option, Some, None, ⊎_elim, cond}
+use Rattle.std.proofs.Common.{◌≡◌, ℕ, ◌==◌, Bool, true, false, ◌||◌, List, [], ◌∷◌, map, refl, ap, subst, sym, ◌∙◌, Option, Some, None, ⊎_elim, cond}
 use Rattle.std.specs.Prelude.{IfSome}
 use Rattle.std.specs.Option.{option_map, option_map_or}
 use Rattle.std.specs.List.{AllByRecursion, list_any}

@@ -1,8 +1,7 @@
 -- What the parts of a store tell of a line that builds is what the history says.
-use Rattle.std.proofs.Common.{◌≡◌, ℕ, Bool, false}
 use Rattle.blob_model.specs.Live.{is_live}
 use Rattle.blob_model.specs.Parts.{claims}
-use Rattle.blob_model.specs.Refusals.{claimed, is_in}
+use Rattle.blob_model.specs.Refusals.{claimed}
 use Rattle.blob_model.specs.Session.{page_limit}
 use Rattle.store_laws.specs.DecidingLaws.{BuildsDecided}
 use Rattle.store_laws.proofs.BuildRefusals.{build_known, slice_known}

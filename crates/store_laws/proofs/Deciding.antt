@@ -1,18 +1,15 @@
 -- The status of a blob at its line and its plan are what the parts of a store tell.
-use Rattle.std.proofs.Common.{◌≡◌, ℕ, ◌+◌, ◌-◌, ◌<◌, ◌==◌, ◌&&◌, ◌||◌, Bool, true, false, not, List, [], ◌∷◌, ◌++◌, length, map, refl, ap, sym, ◌∙◌, Option, Some, None, arith}
-use Rattle.std.specs.Prelude.{◌^◌, is_none, is_some, nat_le, nat_lt, option_and_then, slice_get, if◌then◌else◌, IsSome}
+use Rattle.std.proofs.Common.{◌≡◌, ℕ, ◌+◌, ◌-◌, ◌==◌, ◌&&◌, ◌||◌, Bool, true, false, not, List, [], ◌∷◌, length, refl, ap, ◌∙◌, Option, Some, None}
+use Rattle.std.specs.Prelude.{◌^◌, is_none, is_some, nat_le, nat_lt, option_and_then, slice_get, if◌then◌else◌}
 use Rattle.std.specs.Option.{option_map, option_map_or}
 use Rattle.std.specs.List.{list_any, AllByRecursion}
 use Rattle.std.proofs.lemmas.Bool.{ltb-true, or_parts}
 use Rattle.std.proofs.lemmas.List.{length-map}
-use Rattle.blob_words.specs.declared.limits.Limits.{Limits}
 use Rattle.blob_words.specs.declared.status.Status.{Status}
 use Rattle.blob_words.specs.declared.status.Status.TheVariants as statuses
 use Rattle.session_script.specs.declared.event.Part.{Part}
 use Rattle.session_script.specs.declared.event.Part.TheVariants.{Embedded, Asked, FileRange, BlobRange, HandleRange}
-use Rattle.answer_text.specs.declared.refusal.Refusal.{Refusal}
 use Rattle.answer_text.specs.declared.refusal.Refusal.TheVariants as refusals
-use Rattle.transport_plan.specs.declared.input.PlanInput.{PlanInput}
 use Rattle.transport_plan.specs.Plan.{plan_of}
 use Rattle.transport_plan.specs.Spans.{piece_count}
 use Rattle.renderer_table.specs.Table.{count_of}
@@ -22,9 +19,8 @@ use Rattle.blob_entries.specs.Statuses.{is_broken}
 use Rattle.blob_entries.specs.declared.entry.Entry.{Entry}
 use Rattle.data_handles.specs.Handles.{Handle}
 use Rattle.data_handles.specs.Table.{Slot as TableSlot, Table as HandleTable, slot_at}
-use Rattle.file_table.specs.Files.{note_of, recorded as noted_state, state_of}
+use Rattle.file_table.specs.Files.{note_of, recorded as noted_state}
 use Rattle.file_table.specs.declared.file_note.FileNote.{FileNote}
-use Rattle.file_table.specs.declared.file_note.FileState.{FileState as NotedState}
 use Rattle.page_disk.specs.declared.change.Change.{Change}
 use Rattle.blob_model.specs.Builds.{Build, builds, size_in}
 use Rattle.blob_model.specs.Choice.{first_that}
@@ -32,7 +28,7 @@ use Rattle.blob_model.specs.Construct.{is_invalid, is_lost_source, is_out_of_mem
 use Rattle.blob_model.specs.Handles.{has_handle}
 use Rattle.blob_model.specs.History.{History}
 use Rattle.blob_model.specs.Parts.{claims, embedded, own_bytes, own_lengths, parts_length, sources}
-use Rattle.blob_model.specs.Recorded.{recorded, FileState}
+use Rattle.blob_model.specs.Recorded.{FileState}
 use Rattle.blob_model.specs.Refusals.{claimed, is_in, slot_refusals}
 use Rattle.blob_model.specs.Session.{Session, Slot, page_limit}
 use Rattle.blob_model.specs.Standing.{is_broken as is_broken_now}

@@ -1,13 +1,11 @@
 -- The entry and the row of a new blob stand for it.
 use Rattle.std.proofs.Common.{◌≡◌, ℕ, zero, suc, ◌+◌, ◌<◌, ◌≤◌, ◌==◌, ◌&&◌, ◌||◌, not, Bool, true, false, List, [], ◌∷◌, ◌++◌, map, take, drop, length, refl, ap, subst, sym, ◌∙◌, Option, Some, None, cond, arith, length-append, append_assoc}
-use Rattle.std.specs.Prelude.{flat_map, filter, is_none, unwrap_or, sum_by, IsSomeAnd}
+use Rattle.std.specs.Prelude.{flat_map, filter, is_none, unwrap_or, IsSomeAnd}
 use Rattle.std.specs.Option.{option_map_or}
-use Rattle.std.specs.List.{AllByRecursion, list_any, range_with_len}
+use Rattle.std.specs.List.{AllByRecursion, range_with_len}
 use Rattle.std.proofs.lemmas.Bool.{eq-eqb, or_parts}
 use Rattle.std.proofs.lemmas.List.{append-nil, map-append}
 use Rattle.std.proofs.lemmas.List.Concat.{flat_map-append}
-use Rattle.std.proofs.lemmas.List.Elements.{filter-append}
-use Rattle.blob_words.specs.declared.number.PieceNo.{PieceNo}
 use Rattle.blob_words.specs.declared.number.RendererId.{RendererId}
 use Rattle.blob_words.specs.declared.plan.Plan.{Plan}
 use Rattle.blob_words.specs.declared.plan.Plan.TheVariants as plans
@@ -21,14 +19,14 @@ use Rattle.item_shares.specs.declared.shares.Share.{Share}
 use Rattle.item_shares.specs.Shares.{item_at}
 use Rattle.blob_items.specs.Cells.{view_cells}
 use Rattle.blob_items.specs.declared.view.View.{View}
-use Rattle.blob_entries.specs.Holdings.{fixed_views, step_views}
+use Rattle.blob_entries.specs.Holdings.{fixed_views}
 use Rattle.blob_entries.specs.Statuses.{is_broken, is_pending}
 use Rattle.blob_entries.specs.declared.entry.Entry.{Entry}
 use Rattle.blob_entries.specs.declared.step.Step.{Step}
 use Rattle.blob_entries.specs.declared.step.Step.TheVariants.{Own, Fixed, Source}
 use Rattle.transport_plan.specs.Spans.{IsEndToEnd, cut_spans, piece_spans}
 use Rattle.transport_plan.proofs.SpanLemmas.{cut_cover}
-use Rattle.blob_model.specs.Builds.{Build, Cell, builds, built, build_in, cells_in, cells_of}
+use Rattle.blob_model.specs.Builds.{Build, Cell, builds, built}
 use Rattle.blob_model.specs.History.{History, history_from, start}
 use Rattle.blob_model.specs.Order.{named}
 use Rattle.blob_model.specs.Own.{pending_status}
@@ -43,15 +41,15 @@ use Rattle.blob_model.proofs.Lists.{all_append, append_second, false_true, for_e
 use Rattle.blob_model.proofs.builds.PieceNumbers.{all_by_number, pieces_numbered}
 use Rattle.blob_model.proofs.memory.Builds.{pieces_named}
 use Rattle.blob_model.proofs.legal.Steps.{caused_from}
-use Rattle.registry_laws.specs.Agree.{source_names, step_name}
+use Rattle.registry_laws.specs.Agree.{source_names}
 use Rattle.store_laws.specs.BuildLaws.{Adds, IsEntered}
 use Rattle.store_laws.specs.Cells.{cell_at, denoted, item_cell, piece_cell, piece_in}
 use Rattle.store_laws.specs.EntryLaws.{AreBrought, IsReady, NewEntries, UnbuiltUnended, all_lengths, broken_entry, coming_row, pending_entry, ready_entry, settled_row}
 use Rattle.store_laws.specs.Items.{IsInside, IsLongAs, item_length, piece_at, piece_by, piece_of_item}
-use Rattle.store_laws.specs.Outlines.{outline, outline_of, status_now}
+use Rattle.store_laws.specs.Outlines.{status_now}
 use Rattle.store_laws.specs.PartLaws.{AreFound, AreRanges, own_steps, piece_lengths, piece_no, recipe_of, IsAll}
-use Rattle.store_laws.specs.Recipes.{IsStep, StandsFor, own_cells, own_number, own_numbers, own_step_cells, recipe_cells, step_cells}
-use Rattle.store_laws.specs.Rows.{coming_by, coming_of, gathered_of, gathering, pieces_before, row_of, settled, waiting, writing}
+use Rattle.store_laws.specs.Recipes.{IsStep, StandsFor, own_cells, own_number, own_numbers, own_step_cells, recipe_cells}
+use Rattle.store_laws.specs.Rows.{coming_by, coming_of, gathered_of, gathering, pieces_before, settled, waiting, writing}
 use Rattle.store_laws.specs.Uses.{own_pieces}
 use Rattle.store_laws.proofs.Denoted.{denoted-append, denoted-view}
 use Rattle.store_laws.proofs.Growing.{cells_found}

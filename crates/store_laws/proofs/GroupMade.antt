@@ -11,7 +11,6 @@ use Rattle.blob_model.specs.Builds.{builds}
 use Rattle.blob_model.specs.Pages.{pages}
 use Rattle.blob_model.specs.Tally.{tally, files}
 use Rattle.blob_model.specs.Waits.{waits}
-use Rattle.blob_model.specs.Chunk.{left}
 use Rattle.blob_model.specs.Live.{live}
 use Rattle.blob_model.specs.Own.{IsOwn}
 use Rattle.blob_model.specs.Settle.{drops, endings, removals, grants, page_jobs, compactions, settle, settle_by, is_due, IsSettled}

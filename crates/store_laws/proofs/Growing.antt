@@ -1,9 +1,9 @@
 -- Entries, items and charges stand for the history with a new blob.
-use Rattle.std.proofs.Common.{◌≡◌, ◌⊎◌, ⊎_elim, ℕ, zero, suc, ◌+◌, ◌≤◌, ◌<◌, ◌==◌, ◌&&◌, ◌||◌, not, Bool, true, false, List, [], ◌∷◌, ◌++◌, map, take, drop, length, refl, ap, subst, sym, ◌∙◌, Option, Some, None, cond, arith, length-append}
-use Rattle.std.specs.Prelude.{filter, filter_map, find, flat_map, is_none, is_some, sum_by, take_while, unwrap_or, reverse, slice_get, IfSome, IsSome, IsSomeAnd}
+use Rattle.std.proofs.Common.{◌≡◌, ⊎_elim, ℕ, zero, suc, ◌+◌, ◌≤◌, ◌<◌, ◌==◌, ◌&&◌, ◌||◌, not, Bool, true, false, List, [], ◌∷◌, ◌++◌, map, take, drop, length, refl, ap, subst, sym, ◌∙◌, Option, Some, None, cond, arith}
+use Rattle.std.specs.Prelude.{filter, filter_map, flat_map, is_none, is_some, sum_by, take_while, unwrap_or, reverse, IfSome, IsSome, IsSomeAnd}
 use Rattle.std.specs.Option.{option_and_then, option_map, option_map_or}
 use Rattle.std.specs.List.{AllByRecursion, list_any, prefix_len, range_with_len}
-use Rattle.std.proofs.lemmas.Bool.{eqb-true, eq-eqb, or_parts}
+use Rattle.std.proofs.lemmas.Bool.{eqb-true, eq-eqb}
 use Rattle.std.proofs.lemmas.List.{append-nil, map-append, length-map}
 use Rattle.std.proofs.lemmas.List.Elements.{filter-append}
 use Rattle.std.proofs.lemmas.List.Sums.{sum_by-cons}
@@ -24,7 +24,6 @@ use Rattle.blob_entries.specs.declared.entry.Entry.{Entry}
 use Rattle.blob_entries.specs.declared.step.Step.{Step}
 use Rattle.blob_entries.specs.declared.step.Step.TheVariants.{Own, Fixed, Source}
 use Rattle.page_files.specs.declared.held.Held.{Held}
-use Rattle.page_files.specs.declared.job.Job.{Job as FileJob}
 use Rattle.page_files.specs.declared.page.Page.{Page as FilePage}
 use Rattle.page_files.specs.Files.{Files, left_of}
 use Rattle.page_files.specs.Pages.{pieces_of as held_in}
@@ -32,39 +31,37 @@ use Rattle.quota_queue.specs.Queue.{Queue}
 use Rattle.blob_model.specs.Builds.{Build, Cell, builds, build_in, cells_in, size}
 use Rattle.blob_model.specs.Changes.{piece_bytes}
 use Rattle.blob_model.specs.History.{History}
-use Rattle.blob_model.specs.Jobs.{Job, in_flight, is_in_job, paging}
+use Rattle.blob_model.specs.Jobs.{Job, in_flight, is_in_job}
 use Rattle.blob_model.specs.Live.{has_source}
 use Rattle.blob_model.specs.Order.{AreOrdered, named}
-use Rattle.blob_model.specs.Own.{pending_status}
-use Rattle.blob_model.specs.Pages.{Page, Place, in_memory, in_page, reserved, offset, is_memory, page_with, pages, place, place_by, place_in}
+use Rattle.blob_model.specs.Pages.{Page, in_memory, in_page, reserved, is_memory, page_with, pages, place, place_by, place_in}
 use Rattle.blob_model.specs.Parts.{own_bytes, own_lengths, sources}
 use Rattle.blob_model.specs.Pieces.{Piece, length_in, numbered, pieces, pieces_from, spans_of}
 use Rattle.blob_model.specs.Reached.{is_granted_piece}
 use Rattle.blob_model.specs.Session.{Session, page_limit}
-use Rattle.blob_model.specs.Standing.{ended, grants_at_once, is_done, is_done_status, is_granted, is_unfinished, was_granted}
+use Rattle.blob_model.specs.Standing.{grants_at_once, is_done, is_done_status, is_granted, is_unfinished}
 use Rattle.blob_model.specs.Tally.{in_memory_of}
-use Rattle.blob_model.specs.Transport.{Arrival, arrivals, brought, byte_by_plan, byte_from, has_come, sent_byte, spans}
+use Rattle.blob_model.specs.Transport.{Arrival, brought, byte_by_plan, byte_from, has_come, sent_byte, spans}
 use Rattle.blob_model.specs.Value.{value}
 use Rattle.blob_model.specs.Builds.{sent}
-use Rattle.blob_model.specs.Victims.{last_uses, with_length}
+use Rattle.blob_model.specs.Victims.{with_length}
 use Rattle.blob_model.specs.Waits.{is_shared, is_waiting, waits}
 use Rattle.blob_model.proofs.Lists.{all_members, all_numbered, all_reverse, any_parts, append_second, false_true, filter_all, filter_none, for_both, for_each, found_all, not_same, or_cases, or_first, or_second}
-use Rattle.blob_model.proofs.builds.PieceNumbers.{AreNumbered, all_by_number, found_append, found_number, pieces_numbered}
+use Rattle.blob_model.proofs.builds.PieceNumbers.{AreNumbered, all_by_number, found_append, pieces_numbered}
 use Rattle.blob_model.proofs.memory.Builds.{found_more, numbered_named, pieces_more, pieces_named}
 use Rattle.registry_laws.specs.Agree.{Beside, breaks_as, source_names, step_name}
 use Rattle.store_laws.specs.BuildLaws.{now_waiting, Adds, ContentsGrow, AreAdded, AreListed, AreThere, IsEntered, IsNew, IsUnpaged}
 use Rattle.store_laws.specs.Cells.{piece_in, piece_cell, item_cell, cell_at, cell_by, denoted}
-use Rattle.store_laws.specs.Items.{Facts, IsInside, IsLongAs, IsPlaced, holds_piece, is_number, item_length, piece_at, piece_by, piece_of_item}
+use Rattle.store_laws.specs.Items.{IsInside, IsLongAs, IsPlaced, holds_piece, is_number, item_length, piece_at, piece_by, piece_of_item}
 use Rattle.store_laws.specs.LineLaws.{AreUnmarked}
-use Rattle.store_laws.specs.Outlines.{Outline, outline, outline_of, outlines, outlines_of, status_now, IsMarkedRight}
-use Rattle.store_laws.specs.PageFiles.{is_paged_in, IsSlotOf, PageFacts, PagesStand, Sheet, gone, holds_paged, placed_from, sheet_of, sheets_from, torn, whole, with_held}
-use Rattle.store_laws.specs.Recipes.{EntryStands, IsEntryFor, IsStep, RowsBeside, StandsFor, own_cells, own_numbers, own_step_cells, recipe_cells, step_cells}
-use Rattle.store_laws.specs.Rows.{AreWritten, Coming, Row, bare, coming_by, coming_of, gathered_of, gathering, gathers, is_gathered, pieces_before, row_of, rows_of, settled, waiting, writing}
+use Rattle.store_laws.specs.Outlines.{Outline, outline, outline_of, status_now, IsMarkedRight}
+use Rattle.store_laws.specs.PageFiles.{is_paged_in, IsSlotOf, PageFacts, PagesStand, gone, holds_paged, placed_from, sheet_of, sheets_from, whole, with_held}
+use Rattle.store_laws.specs.Recipes.{EntryStands, IsStep, RowsBeside, StandsFor, own_cells, own_step_cells, recipe_cells, step_cells}
+use Rattle.store_laws.specs.Rows.{AreWritten, Coming, Row, bare, coming_by, coming_of, gathering, gathers, is_gathered, pieces_before, row_of, settled, waiting, writing}
 use Rattle.store_laws.specs.Stands.{ContentsStand}
 use Rattle.store_laws.specs.Uses.{facts_of, held_pieces, is_held, offset_in, order_of, own_pieces, page_facts_of, pageable_of}
 use Rattle.store_laws.specs.ReachLaws.{IsAtRest}
 use Rattle.store_laws.specs.Weights.{reserved_weight}
-use Rattle.store_laws.proofs.AfterLines.{find_last}
 use Rattle.store_laws.proofs.Denoted.{cells-same}
 use Rattle.store_laws.proofs.HeldCounts.{at_slot, slot_of}
 use Rattle.store_laws.proofs.Paired.{AreOutlined, IsTold, by_first, first_of, pending_now, rest_of}

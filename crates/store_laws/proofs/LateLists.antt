@@ -1,5 +1,5 @@
 -- What the lists behind the late drops read off the parts.
-use Rattle.std.proofs.Common.{ℕ, ◌≡◌, ◌+◌, ◌-◌, ◌&&◌, Bool, true, false, List, [], ◌∷◌, refl, sym, subst, ap, ◌∙◌, map, min, nat_le, nat_lt, length, is_none, Option, Some, None, if◌then◌else◌}
+use Rattle.std.proofs.Common.{ℕ, ◌≡◌, ◌+◌, ◌-◌, ◌&&◌, Bool, true, false, List, [], ◌∷◌, refl, sym, subst, ap, ◌∙◌, min, nat_le, nat_lt, length, is_none, Option, Some, None, if◌then◌else◌}
 use Rattle.std.proofs.lemmas.List.{length-map}
 use Rattle.std.specs.Option.{option_map}
 use Rattle.answer_text.specs.declared.answer.Answer.{Answer}

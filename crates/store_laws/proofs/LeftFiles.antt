@@ -1,5 +1,5 @@
 -- Of all answers of a group those of list 4 alone leave page files.
-use Rattle.std.proofs.Common.{◌≡◌, ℕ, ◌⊎◌, Bool, true, false, ◌&&◌, not, List, [], ◌∷◌, ◌++◌}
+use Rattle.std.proofs.Common.{◌≡◌, ℕ, Bool, true, false, ◌&&◌, not, List, [], ◌∷◌, ◌++◌}
 use Rattle.std.proofs.Common.{map, length, reverse, refl, ap, ◌∙◌, Option, Some, None, ⊎_elim, zero, suc}
 use Rattle.std.specs.Prelude.{cond, filter, nat_le, nat_lt}
 use Rattle.std.specs.Option.{option_to_list, option_map}
@@ -25,7 +25,7 @@ use Rattle.blob_model.specs.Pages.{Place, in_memory, reserved, in_page, place}
 use Rattle.blob_model.specs.Jobs.{in_flight}
 use Rattle.blob_model.specs.Readers.{OpenReader, reader_at}
 use Rattle.blob_model.specs.Standing.{ended, is_unfinished}
-use Rattle.blob_model.specs.Tally.{job_left, memory}
+use Rattle.blob_model.specs.Tally.{job_left}
 use Rattle.blob_model.specs.Waits.{waits}
 use Rattle.blob_model.specs.Choice.{IsOneOf}
 use Rattle.blob_model.specs.Chunk.{left, chunk, file_of, first_failing, before_failing}
@@ -33,7 +33,7 @@ use Rattle.blob_model.specs.Live.{is_live}
 use Rattle.blob_model.specs.Entries.{owns_entry}
 use Rattle.blob_model.specs.Construct.{build_answer, build_answer_by, line_status}
 use Rattle.blob_model.specs.Refusals.{refusal}
-use Rattle.blob_model.specs.Own.{IsOwn, IsOwnBy, IsAccepted, IsStep, IsStepBy, IsNext, IsRead, accepted, failing}
+use Rattle.blob_model.specs.Own.{IsOwn, IsOwnBy, IsAccepted, IsStep, IsStepBy, IsNext, IsRead, accepted}
 use Rattle.blob_model.specs.Own.{stored_answers, unstored_answers, plan_in, job_done, job_failed, source_of, read_faults, cell_fault, page_fault, sent_fault}
 use Rattle.blob_model.specs.Settle.{drops, endings_of, ending_answers, ending_tests, grants_of}
 use Rattle.blob_model.specs.Settle.{page_jobs, page_job_of, may_start, compactions, compaction, movable}

@@ -13,14 +13,14 @@ use Rattle.answer_text.specs.declared.refusal.Refusal.{Refusal}
 use Rattle.answer_text.specs.declared.refusal.Refusal.TheVariants as refusals
 use Rattle.data_handles.specs.Table.{Table as HandleTable}
 use Rattle.page_disk.specs.declared.change.Change.{Change}
-use Rattle.renderer_table.specs.Table.{Table, count_of, drop_fault, living_of, spawn_fault, was_spawned}
+use Rattle.renderer_table.specs.Table.{Table, count_of, drop_fault, living_of, spawn_fault}
 use Rattle.renderer_table.specs.declared.fault.DropFault.{DropFault}
 use Rattle.renderer_table.specs.declared.fault.DropFault.TheVariants as drops
 use Rattle.renderer_table.specs.declared.fault.SpawnFault.{SpawnFault}
 use Rattle.renderer_table.specs.declared.fault.SpawnFault.TheVariants as spawns
 use Rattle.renderer_table.specs.declared.living.Living.{Living}
 use Rattle.blob_model.specs.Choice.{first_that}
-use Rattle.blob_model.specs.Handles.{count, has_handle}
+use Rattle.blob_model.specs.Handles.{has_handle}
 use Rattle.blob_model.specs.History.{History}
 use Rattle.blob_model.specs.Own.{IsAccepted, IsOwn, IsOwnBy}
 use Rattle.blob_model.specs.Refusals.{refusal}

@@ -1,6 +1,5 @@
 -- The parts stand for the history in which a job was lost.
 use Rattle.std.proofs.Common.{◌≡◌, ℕ, ◌+◌, ◌==◌, not, Bool, true, false, List, [], ◌∷◌, Option, Some, None, cond, refl, ap, sym, ◌∙◌}
-use Rattle.std.specs.Prelude.{nat_eq}
 use Rattle.std.specs.Option.{option_map, option_map_or}
 use Rattle.blob_words.specs.declared.number.JobNo.{JobNo}
 use Rattle.session_script.specs.declared.event.Event.TheVariants as events

@@ -1,5 +1,5 @@
 -- Which refusal applies to the lines that open readers, as the tables tell.
-use Rattle.std.proofs.Common.{◌≡◌, ℕ, ◌+◌, ◌==◌, ◌&&◌, Bool, true, false, not, List, [], ◌∷◌, length, refl, ap, sym, ◌∙◌, Option, Some, None, cond}
+use Rattle.std.proofs.Common.{◌≡◌, ℕ, ◌+◌, ◌&&◌, Bool, true, false, not, List, [], ◌∷◌, length, refl, ap, sym, ◌∙◌, Option, Some, None}
 use Rattle.std.specs.Prelude.{is_none, is_some, nat_le, nat_lt, unwrap_or, if◌then◌else◌}
 use Rattle.std.specs.Option.{option_map, option_map_or}
 use Rattle.blob_words.specs.declared.counted.Counted.TheVariants as counted
@@ -20,12 +20,11 @@ use Rattle.blob_model.specs.Builds.{builds, size_in}
 use Rattle.blob_model.specs.Choice.{first_that}
 use Rattle.blob_model.specs.Entries.{resolved}
 use Rattle.blob_model.specs.Entries.{Entry as UrlEntry}
-use Rattle.blob_model.specs.Handles.{has_handle}
 use Rattle.blob_model.specs.History.{History}
 use Rattle.blob_model.specs.Own.{blob_at}
 use Rattle.blob_model.specs.Readers.{OpenReader, readers}
 use Rattle.blob_model.specs.Refusals.{fetch_refusals, reader_refusals, refusal}
-use Rattle.blob_model.specs.Renderers.{is_alive, origin_of}
+use Rattle.blob_model.specs.Renderers.{origin_of}
 use Rattle.blob_model.specs.Session.{Session, page_limit}
 use Rattle.blob_model.specs.Standing.{is_broken as was_broken}
 use Rattle.store_laws.specs.Apart.{AreUrlsApart}

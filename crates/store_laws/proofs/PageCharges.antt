@@ -1,5 +1,5 @@
 -- What is charged for page files is what the reached pieces in them, the reserved ones and those of the job are charged.
-use Rattle.std.proofs.Common.{◌≡◌, ℕ, zero, suc, ◌+◌, ◌==◌, ◌⊎◌, Bool, true, false, ◌&&◌, ◌||◌, not, List, []}
+use Rattle.std.proofs.Common.{◌≡◌, ℕ, zero, suc, ◌+◌, ◌==◌, Bool, true, false, ◌&&◌, ◌||◌, not, List, []}
 use Rattle.std.proofs.Common.{◌∷◌, map, length, reverse, get_or, refl, ap, subst, sym, ◌∙◌, arith, Option, Some, None, ⊎_elim, cond}
 use Rattle.std.specs.Prelude.{filter, find, nat_lt, sum_by, IfSome, IsSomeAnd}
 use Rattle.std.specs.Option.{option_map, option_map_or}

@@ -1,5 +1,5 @@
 -- Blobs beside their entries: who stands, how each stands, and that sources stand before.
-use Rattle.std.proofs.Common.{◌≡◌, ℕ, ◌+◌, ◌==◌, ◌⊎◌, Bool, true, false, ◌&&◌, ◌||◌, not, List, []}
+use Rattle.std.proofs.Common.{◌≡◌, ℕ, ◌==◌, ◌⊎◌, Bool, true, false, ◌&&◌, ◌||◌, not, List, []}
 use Rattle.std.proofs.Common.{◌∷◌, ◌++◌, map, refl, ap, sym, ◌∙◌, Option, Some, None, inl, inr, ⊎_elim, cond}
 use Rattle.std.specs.Prelude.{filter, is_some, is_none, unwrap_or, IfSome}
 use Rattle.std.specs.Option.{option_map, option_map_or}

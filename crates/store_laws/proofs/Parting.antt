@@ -1,8 +1,7 @@
 -- A recipe of parts stands for their cells.
-use Rattle.std.proofs.Common.{◌≡◌, ℕ, zero, suc, ◌+◌, ◌-◌, ◌<◌, List, [], ◌∷◌, ◌++◌, map, take, drop, length, refl, ap, subst, sym, ◌∙◌, Option, Some, arith, append_assoc}
-use Rattle.std.specs.Prelude.{flat_map}
+use Rattle.std.proofs.Common.{◌≡◌, ℕ, zero, suc, ◌+◌, ◌-◌, ◌<◌, List, [], ◌∷◌, ◌++◌, map, take, drop, length, refl, ap, subst, sym, ◌∙◌, Option, Some, arith}
 use Rattle.std.specs.Int.{div_ceil}
-use Rattle.std.specs.List.{AllByRecursion, range_with_len}
+use Rattle.std.specs.List.{range_with_len}
 use Rattle.std.proofs.lemmas.List.{append-nil, length-map}
 use Rattle.std.proofs.lemmas.List.Concat.{flat_map-append}
 use Rattle.session_script.specs.declared.event.Part.{Part}
@@ -13,8 +12,7 @@ use Rattle.item_shares.specs.declared.shares.Share.{Share}
 use Rattle.item_shares.specs.Shares.{item_at}
 use Rattle.blob_items.specs.Cells.{view_cells}
 use Rattle.blob_items.specs.declared.view.View.{View}
-use Rattle.blob_entries.specs.declared.step.Step.{Step}
-use Rattle.blob_entries.specs.declared.step.Step.TheVariants.{Own, Fixed, Source}
+use Rattle.blob_entries.specs.declared.step.Step.TheVariants.{Own}
 use Rattle.transport_plan.specs.Spans.{IsEndToEnd, cut_spans, piece_spans, span_at}
 use Rattle.transport_plan.proofs.SpanLemmas.{cover_sum, cut_cover}
 use Rattle.blob_model.specs.Builds.{Build, Cell, cells_in, cells_of, file_cells, handle_cells, own_cells, sent}
@@ -23,7 +21,7 @@ use Rattle.blob_model.specs.Pieces.{Piece, numbered}
 use Rattle.blob_model.proofs.Lists.{append_second}
 use Rattle.store_laws.specs.Cells.{cell_at, denoted, item_cell, piece_cell, piece_in}
 use Rattle.store_laws.specs.PartLaws.{AreFound, AreRanges, RecipesStand, own_steps, piece_lengths, piece_no, recipe_of, IsAll}
-use Rattle.store_laws.specs.Recipes.{own_step_cells, recipe_cells, step_cells}
+use Rattle.store_laws.specs.Recipes.{recipe_cells, step_cells}
 use Rattle.store_laws.proofs.Denoted.{denoted-view, map-map, file-cells, piece-cells, range-cells}
 use Rattle.store_laws.proofs.ViewHas.{append_first}
 

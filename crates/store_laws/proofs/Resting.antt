@@ -12,7 +12,7 @@ use Rattle.blob_model.specs.Session.{Session, page_limit}
 use Rattle.blob_model.specs.History.{History, history_from, said_all, start}
 use Rattle.blob_model.specs.Builds.{Build, builds}
 use Rattle.blob_model.specs.Legal.{IsLegalFrom}
-use Rattle.blob_model.specs.Live.{has_source, is_live, live}
+use Rattle.blob_model.specs.Live.{has_source, is_live}
 use Rattle.blob_model.specs.Parts.{sources}
 use Rattle.blob_model.specs.Settle.{compactions, drops, ending, ending_answers, ending_tests, endings, endings_of, grants, page_jobs, removals}
 use Rattle.blob_model.specs.Standing.{ended, is_broken, is_broken_status, is_unfinished}

@@ -1,6 +1,6 @@
 -- The parts stand for the history with a step.
-use Rattle.std.proofs.Common.{◌≡◌, ◌⊎◌, ℕ, zero, suc, ◌+◌, ◌-◌, ◌<◌, ◌≤◌, ◌==◌, ◌&&◌, ◌||◌, Bool, true, false, not, cond, List, [], ◌∷◌, ◌++◌, map, length, min, set, Option, Some, None, refl, sym, ap, subst, ◌∙◌, inl, inr, arith, ⊎_elim, append-nil}
-use Rattle.std.specs.Prelude.{filter, filter_map, find, flat_map, fold, is_some, nat_eq, option_and_then, slice_get, IfSome, IsSomeAnd, if◌then◌else◌}
+use Rattle.std.proofs.Common.{◌≡◌, ℕ, zero, suc, ◌+◌, ◌-◌, ◌≤◌, ◌==◌, ◌&&◌, ◌||◌, Bool, true, false, not, cond, List, [], ◌∷◌, ◌++◌, map, length, min, set, Option, Some, None, refl, sym, ap, subst, ◌∙◌, arith, ⊎_elim, append-nil}
+use Rattle.std.specs.Prelude.{filter, filter_map, find, fold, is_some, nat_eq, slice_get, IfSome, IsSomeAnd, if◌then◌else◌}
 use Rattle.std.specs.Option.{option_map, option_map_or}
 use Rattle.std.specs.List.{AllByRecursion, cons_option, list_any}
 use Rattle.std.proofs.lemmas.Bool.{and_parts, eq-eqb, eqb-true, or_parts}
@@ -9,29 +9,26 @@ use Rattle.std.proofs.lemmas.List.Elements.{filter_map-append}
 use Rattle.std.proofs.lemmas.List.Sums.{fold-append}
 use Rattle.blob_words.specs.declared.limits.Limits.{Limits}
 use Rattle.blob_words.specs.declared.number.ReaderId.{ReaderId}
-use Rattle.blob_words.specs.declared.status.Status.TheVariants as statuses
 use Rattle.session_script.specs.declared.event.Event.{Event}
 use Rattle.session_script.specs.declared.event.Event.TheVariants as events
 use Rattle.answer_text.specs.declared.answer.Answer.{Answer}
 use Rattle.answer_text.specs.declared.answer.Answer.TheVariants as answers
 use Rattle.data_handles.specs.Handles.{Handle}
-use Rattle.data_handles.specs.Table.{counted as counted_slot, counted_at, slot_at, Slot as TableSlot, Table as HandleTable}
+use Rattle.data_handles.specs.Table.{counted as counted_slot, slot_at, Slot as TableSlot, Table as HandleTable}
 use Rattle.page_disk.specs.declared.change.Change.{Change}
 use Rattle.item_shares.specs.Shares.{item_at}
 use Rattle.item_shares.specs.declared.item.Item.{Item}
 use Rattle.item_shares.specs.declared.item.Item.TheVariants.{Memory, Paged, Reserved, File, Range}
-use Rattle.blob_entries.specs.Book.{changed, entry_of}
+use Rattle.blob_entries.specs.Book.{changed}
 use Rattle.blob_entries.specs.Changes.{held_less}
-use Rattle.blob_entries.specs.declared.entry.Entry.{Entry}
 use Rattle.range_reader.specs.Bytes.{origins}
-use Rattle.range_reader.specs.Places.{Lies, ViewLies}
+use Rattle.range_reader.specs.Places.{Lies}
 use Rattle.range_reader.specs.Steps.{next_cells}
-use Rattle.recent_items.specs.Recent.{touched, without}
+use Rattle.recent_items.specs.Recent.{touched}
 use Rattle.blob_model.specs.Builds.{builds, Cell, filed, lent}
 use Rattle.blob_model.specs.Chunk.{chunk}
 use Rattle.blob_model.specs.History.{heard, refused, said, start, History}
 use Rattle.blob_model.specs.Jobs.{is_in_job, paging}
-use Rattle.blob_model.specs.Order.{AreOrdered}
 use Rattle.blob_model.specs.Pages.{in_memory, in_page, is_memory, place_in, Place}
 use Rattle.blob_model.specs.Pieces.{piece_with, pieces, pieces_of, Piece}
 use Rattle.blob_model.specs.Readers.{advanced, reader_at, readers, OpenReader}
@@ -46,8 +43,8 @@ use Rattle.store_laws.specs.Cells.{cell_at, cell_by, piece_cell, piece_in}
 use Rattle.store_laws.specs.Items.{IsPlaced}
 use Rattle.store_laws.specs.LineLaws.{counted, AreUnmarked}
 use Rattle.store_laws.specs.Stands.{Between, Parts}
-use Rattle.store_laws.specs.StepLaws.{ends_reader, memory_number, moved_on, read_numbers, touched_all, AreUsed, CountsAreBeside, ReaderMoves, StepCloses, StepGives, StepLeaves}
-use Rattle.store_laws.specs.TableLaws.{open_at, ReaderGoes}
+use Rattle.store_laws.specs.StepLaws.{ends_reader, memory_number, moved_on, read_numbers, touched_all, AreUsed, CountsAreBeside, ReaderMoves, StepGives, StepLeaves}
+use Rattle.store_laws.specs.TableLaws.{ReaderGoes}
 use Rattle.store_laws.specs.Tables.{seen_as, slot_seen, ReadersStand}
 use Rattle.store_laws.specs.Uses.{facts_of, held_pieces, is_held, pageable_of}
 use Rattle.store_laws.proofs.Alike.{between_alike}
@@ -433,7 +430,8 @@ module _ (s : Session) (h : History) (stands : ℕ → Bool) (parts : Parts) (to
     pageable_used : (n : ℕ)
         → is_some (with_length (pageable_of (page_limit s) h (held_pieces (page_limit s) h parts.shares parts.rows)) n) ≡ true
         → list_any (λ (each : ℕ). each == n) (last_uses s.limits h) ≡ true
-    pageable_used n some = by (find (λ (piece : Piece). piece.number == n) (pageable_of (page_limit s) h (held_pieces (page_limit s) h parts.shares parts.rows))) refl some
+    pageable_used n some =
+        by (find (λ (piece : Piece). piece.number == n) (pageable_of (page_limit s) h (held_pieces (page_limit s) h parts.shares parts.rows))) refl some
       where
         by : (found : Option Piece)
             → find (λ (piece : Piece). piece.number == n) (pageable_of (page_limit s) h (held_pieces (page_limit s) h parts.shares parts.rows)) ≡ found

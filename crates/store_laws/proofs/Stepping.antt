@@ -1,6 +1,6 @@
 -- What a step of a reader gives is what the history allows.
-use Rattle.std.proofs.Common.{◌≡◌, ◌⊎◌, ℕ, zero, suc, ◌+◌, ◌-◌, ◌<◌, ◌≤◌, ◌==◌, ◌&&◌, Bool, true, false, not, cond, List, [], ◌∷◌, ◌++◌, map, length, drop, take, min, Option, Some, None, refl, sym, ap, subst, ◌∙◌, inl, inr, arith}
-use Rattle.std.specs.Prelude.{find, flat_map, nat_le, nat_lt, option_and_then, slice_get, take_while, unwrap_or, IfSome, IsSomeAnd, if◌then◌else◌}
+use Rattle.std.proofs.Common.{◌≡◌, ℕ, zero, suc, ◌+◌, ◌-◌, ◌<◌, ◌≤◌, ◌==◌, ◌&&◌, Bool, true, false, not, cond, List, [], ◌∷◌, ◌++◌, map, length, drop, take, min, Option, Some, None, refl, sym, ap, subst, ◌∙◌, inl, inr, arith}
+use Rattle.std.specs.Prelude.{nat_le, nat_lt, option_and_then, slice_get, unwrap_or, IfSome, IsSomeAnd}
 use Rattle.std.specs.Option.{option_map, option_map_or}
 use Rattle.std.specs.List.{AllByRecursion, list_any, prefix_len, range_with_len}
 use Rattle.std.proofs.lemmas.Bool.{eq-eqb, eqb-true, le-leb, lt-ltb, or_parts}
@@ -9,7 +9,6 @@ use Rattle.blob_words.specs.declared.number.PageNo.{PageNo}
 use Rattle.blob_words.specs.declared.number.ReaderId.{ReaderId}
 use Rattle.blob_words.specs.declared.status.Status.{Status}
 use Rattle.blob_words.specs.declared.status.Status.TheVariants as statuses
-use Rattle.session_script.specs.declared.event.Event.TheVariants as events
 use Rattle.answer_text.specs.declared.answer.Answer.{Answer}
 use Rattle.answer_text.specs.declared.answer.Answer.TheVariants as answers
 use Rattle.data_handles.specs.Table.{Table as HandleTable}
@@ -27,14 +26,11 @@ use Rattle.blob_items.proofs.CutLemmas.{cells_behind, first_within}
 use Rattle.blob_items.proofs.StartLemmas.{total-cons}
 use Rattle.blob_entries.specs.Book.{entry_at, entry_of}
 use Rattle.blob_entries.specs.Names.{number_of}
-use Rattle.blob_entries.specs.Statuses.{is_pending}
 use Rattle.blob_entries.specs.declared.entry.Entry.{Entry}
 use Rattle.range_reader.specs.Bytes.{AreBytesOf, cell_byte, cell_fails, item_byte, item_fails, origins, Origins}
-use Rattle.range_reader.specs.Ends.{StepEnds, Stops}
+use Rattle.range_reader.specs.Ends.{StepEnds}
 use Rattle.range_reader.specs.Places.{Course, Lies, ViewLies}
-use Rattle.range_reader.specs.Steps.{asked, Asked, IsInPage, IsOfHandle, next_cells, StopsAt}
-use Rattle.range_reader.specs.declared.item.ItemFault.{ItemFault}
-use Rattle.range_reader.specs.declared.item.ItemFault.TheVariants as item_faults
+use Rattle.range_reader.specs.Steps.{asked, Asked, IsInPage, IsOfHandle, next_cells}
 use Rattle.range_reader.specs.declared.step_end.StepEnd.{StepEnd}
 use Rattle.range_reader.specs.declared.step_end.StepEnd.TheVariants.{Bytes, End, FileChanged, PageFault, HandleFault}
 use Rattle.blob_model.specs.Builds.{Build, Cell, build_in, builds, cells_in, sent}
@@ -42,28 +38,27 @@ use Rattle.blob_model.specs.Choice.{IsOneOf}
 use Rattle.blob_model.specs.Chunk.{before_failing, chunk, fails, file_of, first_failing, gives, left}
 use Rattle.blob_model.specs.History.{History}
 use Rattle.blob_model.specs.Order.{AreOrdered}
-use Rattle.blob_model.specs.Own.{cell_fault, page_fault, pending_status, read_faults, sent_fault, IsAccepted, IsNext, IsRead, IsReadOf, IsStepBy, IsStep}
-use Rattle.blob_model.specs.Pages.{Place, in_page}
+use Rattle.blob_model.specs.Own.{cell_fault, page_fault, pending_status, read_faults, sent_fault, IsNext, IsRead, IsReadOf, IsStepBy, IsStep}
+use Rattle.blob_model.specs.Pages.{in_page}
 use Rattle.blob_model.specs.Pieces.{Piece, owns, piece_with, pieces}
-use Rattle.blob_model.specs.Readers.{OpenReader, reader_at}
+use Rattle.blob_model.specs.Readers.{OpenReader}
 use Rattle.blob_model.specs.Recorded.{FileState, recorded}
 use Rattle.blob_model.specs.Session.{Session, page_limit}
 use Rattle.blob_model.specs.Standing.{ended}
 use Rattle.blob_model.specs.Transport.{has_all}
 use Rattle.blob_model.specs.Value.{agree, agrees}
 use Rattle.blob_model.specs.Waits.{is_waiting}
-use Rattle.blob_model.proofs.Lists.{all_append, append_second, found_all, found_true}
+use Rattle.blob_model.proofs.Lists.{all_append, append_second, found_all}
 use Rattle.blob_model.proofs.builds.Order.{Distinct, ordered_distinct}
 use Rattle.blob_model.proofs.texts.Ranges.{all_dropped, all_taken}
 use Rattle.model_bridges.specs.Bridges.{state_as}
 use Rattle.registry_laws.specs.Agree.{Beside}
-use Rattle.store_laws.specs.Cells.{cell_at, cell_by, denoted, item_cell, piece_cell, piece_in}
+use Rattle.store_laws.specs.Cells.{cell_at, cell_by, denoted, piece_cell, piece_in}
 use Rattle.store_laws.specs.Items.{IsPlaced}
-use Rattle.store_laws.specs.Outlines.{Outline, outline, outline_of}
-use Rattle.store_laws.specs.Recipes.{EntryStands, IsEntryFor, StandsFor}
+use Rattle.store_laws.specs.Outlines.{Outline}
+use Rattle.store_laws.specs.Recipes.{EntryStands, StandsFor}
 use Rattle.store_laws.specs.Stands.{Between, Parts}
-use Rattle.store_laws.specs.StepLaws.{file_name, name_by, step_answer, viewed_file, StepTells}
-use Rattle.store_laws.specs.TableLaws.{open_at}
+use Rattle.store_laws.specs.StepLaws.{name_by, step_answer, viewed_file, StepTells}
 use Rattle.store_laws.specs.TellLaws.{AreWritten}
 use Rattle.store_laws.specs.Uses.{facts_of, own_pieces}
 use Rattle.store_laws.proofs.Owners.{IsOwner, owners, pieces_staggered}

@@ -1,15 +1,14 @@
 -- In a legal transcript a blob that ended was built.
-use Rattle.std.proofs.Common.{◌≡◌, ◌⊎◌, inl, inr, ⊎_elim, ℕ, ◌==◌, ◌||◌, Bool, true, false, List, [], ◌∷◌, ◌++◌, refl, ap, subst, sym, ◌∙◌, Option, Some, None, cond}
-use Rattle.std.specs.Prelude.{is_none, is_some}
-use Rattle.std.specs.List.{list_any}
-use Rattle.std.proofs.lemmas.Bool.{eqb-true, eq-eqb}
+use Rattle.std.proofs.Common.{◌≡◌, ◌⊎◌, inl, inr, ⊎_elim, ℕ, ◌==◌, Bool, true, false, List, [], ◌∷◌, refl, ap, subst, sym, ◌∙◌, Option, Some, None, cond}
+use Rattle.std.specs.Prelude.{is_some}
+use Rattle.std.proofs.lemmas.Bool.{eqb-true}
 use Rattle.blob_words.specs.declared.status.Status.{Status}
 use Rattle.blob_words.specs.declared.status.Status.TheVariants as statuses
 use Rattle.session_script.specs.declared.event.Event.{Event}
 use Rattle.session_script.specs.declared.event.Event.TheVariants as events
 use Rattle.session_script.specs.declared.event.Part.{Part}
 use Rattle.answer_text.specs.declared.answer.Answer.{Answer}
-use Rattle.blob_model.specs.Builds.{Build, builds, build_in, slice_parts}
+use Rattle.blob_model.specs.Builds.{Build, builds, slice_parts}
 use Rattle.blob_model.specs.Construct.{build_answer, build_answer_by, line_status}
 use Rattle.blob_model.specs.History.{History, heard, refused, said, start}
 use Rattle.blob_model.specs.Laws.{is_build}

@@ -1,7 +1,7 @@
 -- Behind each group of a legal transcript no unfinished entry is marked to break, and without marks any later history agrees with them.
 use Rattle.std.proofs.Common.{◌≡◌, ℕ, Bool, true, false, List, [], ◌∷◌, refl, ap, sym, ◌∙◌, Option, Some, None, cond}
 use Rattle.std.specs.Prelude.{is_none, IfSome}
-use Rattle.std.specs.Option.{option_map, option_to_list}
+use Rattle.std.specs.Option.{option_to_list}
 use Rattle.std.specs.List.{AllByRecursion}
 use Rattle.blob_words.specs.declared.status.Status.{Status}
 use Rattle.blob_words.specs.declared.status.Status.TheVariants as statuses
@@ -24,10 +24,10 @@ use Rattle.blob_model.proofs.live.Reached.{all_empty}
 use Rattle.blob_model.proofs.settled.Groups.{settled_after}
 use Rattle.registry_laws.specs.Agree.{Beside, breaks_as, told}
 use Rattle.store_laws.specs.LineLaws.{AreUnmarked}
-use Rattle.store_laws.specs.Outlines.{Outline, outline, status_now, IsMarkedRight}
+use Rattle.store_laws.specs.Outlines.{Outline, status_now, IsMarkedRight}
 use Rattle.store_laws.specs.Stands.{Between, Parts}
 use Rattle.store_laws.proofs.Agreeing.{told_now}
-use Rattle.store_laws.proofs.Paired.{AreOutlined, IsTold, by_first, first_of, rest_of}
+use Rattle.store_laws.proofs.Paired.{AreOutlined, by_first, first_of, rest_of}
 use Rattle.store_laws.proofs.Resting.{each_ends, rests_when_settled}
 
 both_fail : (a b : Bool) → a ≡ false → b ≡ false

@@ -1,11 +1,8 @@
 -- What a step gives of a blob that is unfinished or broken.
-use Rattle.std.proofs.Common.{◌≡◌, ℕ, Bool, true, false, cond, List, [], ◌∷◌, Option, Some, None, refl, sym, ap, subst, ◌∙◌}
-use Rattle.std.specs.Prelude.{unwrap_or, IfSome, if◌then◌else◌}
+use Rattle.std.proofs.Common.{◌≡◌, false, [], ◌∷◌, Option, refl, sym, ap, subst, ◌∙◌}
 use Rattle.blob_words.specs.declared.number.ReaderId.{ReaderId}
 use Rattle.blob_words.specs.declared.status.Status.{Status}
 use Rattle.blob_words.specs.declared.status.Status.TheVariants as statuses
-use Rattle.answer_text.specs.declared.answer.Answer.TheVariants as answers
-use Rattle.blob_entries.specs.Statuses.{is_pending}
 use Rattle.blob_model.specs.History.{History}
 use Rattle.blob_model.specs.Own.{IsStep, IsStepBy}
 use Rattle.blob_model.specs.Readers.{OpenReader}

@@ -1,7 +1,6 @@
 -- In a legal transcript who owns a URL was spawned.
-use Rattle.std.proofs.Common.{◌≡◌, ℕ, ◌==◌, true, not, List, [], ◌∷◌}
-use Rattle.std.specs.Prelude.{bytes_eq, Option, None}
-use Rattle.std.specs.List.{AllByRecursion}
+use Rattle.std.proofs.Common.{◌≡◌, ◌==◌, true, not, [], ◌∷◌}
+use Rattle.std.specs.Prelude.{bytes_eq, None}
 use Rattle.session_script.specs.declared.event.Event.{Event}
 use Rattle.session_script.specs.declared.event.Event.TheVariants as events
 use Rattle.answer_text.specs.declared.answer.Answer.{Answer}

@@ -1,9 +1,9 @@
 -- Each piece of a blob that is done was used.
-use Rattle.std.proofs.Common.{◌≡◌, ◌⊎◌, ℕ, ◌+◌, ◌==◌, ◌||◌, Bool, true, false, not, cond, List, [], ◌∷◌, ◌++◌, map, length, Option, Some, None, refl, sym, ap, subst, ◌∙◌, inl, inr, append_assoc}
+use Rattle.std.proofs.Common.{◌≡◌, ℕ, ◌+◌, ◌==◌, ◌||◌, Bool, true, false, not, cond, List, [], ◌∷◌, ◌++◌, map, length, Option, Some, None, refl, sym, ap, subst, ◌∙◌, inl, inr, append_assoc}
 use Rattle.std.specs.Prelude.{filter, fold}
 use Rattle.std.specs.Option.{option_map_or}
 use Rattle.std.specs.List.{AllByRecursion, list_any}
-use Rattle.std.proofs.lemmas.Bool.{eq-eqb, eqb-true, or_parts}
+use Rattle.std.proofs.lemmas.Bool.{eq-eqb, eqb-true}
 use Rattle.blob_words.specs.declared.limits.Limits.{Limits}
 use Rattle.blob_words.specs.declared.status.Status.{Status}
 use Rattle.blob_words.specs.declared.status.Status.TheVariants as statuses
@@ -11,7 +11,7 @@ use Rattle.session_script.specs.declared.event.Event.{Event}
 use Rattle.session_script.specs.declared.event.Event.TheVariants as events
 use Rattle.answer_text.specs.declared.answer.Answer.{Answer}
 use Rattle.answer_text.specs.declared.answer.Answer.TheVariants as answers
-use Rattle.blob_model.specs.Builds.{build_in, builds, Build, Cell}
+use Rattle.blob_model.specs.Builds.{builds, Build, Cell}
 use Rattle.blob_model.specs.Chunk.{chunk}
 use Rattle.blob_model.specs.History.{heard, refused, said, start, History}
 use Rattle.blob_model.specs.Order.{named}
@@ -152,7 +152,8 @@ all_named page number (build ∷ list) =
     (pieces_from page (number + length (spans_of page build)) list) (λ piece is. or_second (build.name == piece.blob) _ is)
     (all_named page (number + length (spans_of page build)) list))
 
-split_pieces : (page number : ℕ) (xs ys : List Build) → (from : ℕ) × (pieces_from page number (xs ++ ys) ≡ pieces_from page number xs ++ pieces_from page from ys)
+split_pieces : (page number : ℕ) (xs ys : List Build)
+    → (from : ℕ) × (pieces_from page number (xs ++ ys) ≡ pieces_from page number xs ++ pieces_from page from ys)
 split_pieces page number [] ys = (number, refl)
 split_pieces page number (x ∷ xs) ys =
     let rest = split_pieces page (number + length (spans_of page x)) xs ys in (

@@ -1,6 +1,6 @@
 -- Each page file has the bytes of its pieces, as they were sent.
-use Rattle.std.proofs.Common.{◌≡◌, ◌⊎◌, ℕ, zero, suc, ◌+◌, ◌<◌, ◌≤◌, ◌==◌, Bool, true, false, List, [], ◌∷◌, ◌++◌, refl, sym, ap, subst, ◌∙◌, inl, inr, arith, length, append-nil, Option, Some, None}
-use Rattle.std.specs.Prelude.{cond, filter_map, map, if◌then◌else◌}
+use Rattle.std.proofs.Common.{◌≡◌, ℕ, zero, suc, ◌+◌, ◌<◌, ◌≤◌, ◌==◌, Bool, true, List, [], ◌∷◌, ◌++◌, refl, sym, ap, subst, ◌∙◌, inl, inr, arith, length, append-nil, Option, Some, None}
+use Rattle.std.specs.Prelude.{cond, filter_map, map}
 use Rattle.std.specs.Option.{option_map_or, option_or}
 use Rattle.std.specs.List.{AllByRecursion, cons_option, list_any, range_with_len}
 use Rattle.std.proofs.lemmas.Bool.{eq-eqb}
@@ -28,7 +28,7 @@ use Rattle.blob_model.proofs.bytes.Sent.{IsKnown}
 use Rattle.blob_model.proofs.bytes.Written.{HasPiece, left_flying, listed_there, pieces_append, stored_there, written_whole}
 use Rattle.blob_model.proofs.disk.Settling.{numbers_list}
 use Rattle.blob_model.proofs.disk.Stock.{flying}
-use Rattle.blob_model.proofs.legal.Causes.{is_idle, OwnCase, idle, breaks, stores, unstores, replies, loses, own_case, IsFurther, by_store, by_unstore, by_drop, by_break, by_done, by_removal, by_grant, by_page_job, by_compaction, IsHeard, IsCaused}
+use Rattle.blob_model.proofs.legal.Causes.{is_idle, OwnCase, idle, breaks, stores, unstores, replies, loses, own_case, IsFurther, by_store, by_unstore, by_drop, by_break, by_done, by_removal, by_grant, by_page_job, by_compaction, IsCaused}
 use Rattle.blob_model.proofs.legal.PageNumbers.{Takes, heard_takes, pages_rise, said_takes, same_first}
 use Rattle.store_laws.specs.TellLaws.{AreWritten, IsWritten, bytes_by, bytes_in}
 use Rattle.store_laws.proofs.Staying.{values_stay}
@@ -117,7 +117,8 @@ module _ (s : Session) (h g : History) (grown : Grown s h g)
   more_files list next number pieces bytes files takes rise new is have last =
       all_append (IsLast s g (list ++ put number bytes ∷ [])) files (record { number = number; pieces = pieces } ∷ [])
       (old_files list (put number bytes) next 0 files rise have last
-      (λ page low. ap (λ (b : Bool). cond {A = Option (List ℕ)} b (Some bytes) None) (not_same page number (λ same. absurd (omega (arith, low, same, takes)))))) (
+      (λ page low. ap (λ (b : Bool). cond {A = Option (List ℕ)} b (Some bytes) None)
+      (not_same page number (λ same. absurd (omega (arith, low, same, takes)))))) (
         new_last number list (put number bytes) (list_bytes s g pieces)
             (ap (λ (b : Bool). cond {A = Option (List ℕ)} b (Some bytes) None) (eq-eqb number number refl)
             ∙ ap (λ (each : List ℕ). Some each) (is ∙ sym (list_kept s h g grown stay pieces new))),
@@ -208,8 +209,11 @@ first_writes s h event answer rest caused (loses job same e) = subst (Writes s h
 
 said_writes : (s : Session) (h : History) (answer : Answer) → IsCaused s h → IsFurther s h answer → Writes s h answer
 said_writes s h answer caused (by_store k renderer b segment bytes n same passes at e) =
-    subst (Writes s h) (sym e)
-    (subst (λ (line : History). HasPiece s line (piece_at s k b segment)) (sym same) (stored_there s k renderer b segment bytes n (subst (IsCaused s) same caused) passes at), tt)
+    subst (Writes s h) (sym e) (
+      subst (λ (line : History). HasPiece s line (piece_at s k b segment)) (sym same)
+          (stored_there s k renderer b segment bytes n (subst (IsCaused s) same caused) passes at),
+      tt,
+    )
 said_writes s h answer caused (by_unstore k renderer b segment bytes n same passes at e) = subst (Writes s h) (sym e) tt
 said_writes s h answer caused (by_drop build found begun unrooted e) = subst (Writes s h) (sym e) tt
 said_writes s h answer caused (by_break build found begun status broken e) = subst (Writes s h) (sym e) tt
@@ -236,4 +240,5 @@ all_last s (said h answer) caused =
 pub all_written : (s : Session) (h : History) → IsCaused s h → AreWritten s h
 all_written s h caused =
     for_both (λ (file : Page). AllByRecursion (λ (number : ℕ). length (numbered_bytes s h number) ≡ length_in (pieces (page_limit s) h) number) file.pieces)
-    (IsLast s h (changes s h)) (IsWritten s h) (pages h) (λ file whole last. record { whole = whole; last = last }) (written_whole s h caused) (all_last s h caused)
+    (IsLast s h (changes s h)) (IsWritten s h) (pages h) (λ file whole last. record { whole = whole; last = last }) (written_whole s h caused)
+    (all_last s h caused)

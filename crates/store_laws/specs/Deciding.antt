@@ -30,7 +30,7 @@ use Rattle.slice_rule.specs.Range.{slice_of}
 use Rattle.blob_model.specs.Choice.{first_that}
 use Rattle.blob_model.specs.Construct.{is_out_of_memory}
 use Rattle.blob_model.specs.Parts.{claims, embedded, own_bytes, own_lengths, parts_length}
-use Rattle.blob_model.specs.Refusals.{is_in, is_many_segments}
+use Rattle.blob_model.specs.Refusals.{is_many_segments}
 use Rattle.store_laws.specs.Rows.{Row}
 use Rattle.store_laws.specs.Stands.{Parts}
 

@@ -1,5 +1,5 @@
 -- What the parts of a store tell of a build line is what the history says. Own.
-use Rattle.std.specs.Prelude.{ℕ, ◌≡◌, ◌<◌, Bool, List, None, Option, IsSome, ℤ}
+use Rattle.std.specs.Prelude.{ℕ, ◌≡◌, ◌<◌, List, None, Option, IsSome, ℤ}
 use Rattle.blob_words.specs.declared.number.RendererId.{RendererId}
 use Rattle.session_script.specs.declared.event.Event.TheVariants as events
 use Rattle.session_script.specs.declared.event.Part.{Part}

@@ -1,5 +1,5 @@
 -- The entry and the row of a blob that comes: broken at its line, with all its own bytes at hand, waiting for room, or for its segments. Own.
-use Rattle.std.specs.Prelude.{ℕ, ◌≡◌, ◌+◌, ◌<◌, Bool, true, false, List, [], ◌∷◌, flat_map, length, map, Option, None, Some, IsSomeAnd}
+use Rattle.std.specs.Prelude.{ℕ, ◌≡◌, ◌+◌, ◌<◌, true, false, List, [], ◌∷◌, flat_map, length, map, Option, None, Some, IsSomeAnd}
 use Rattle.std.specs.List.{AllByRecursion, range_with_len}
 use Rattle.blob_words.specs.declared.number.RendererId.{RendererId}
 use Rattle.blob_words.specs.declared.plan.Plan.{Plan}
@@ -14,12 +14,12 @@ use Rattle.item_shares.specs.Shares.{item_at}
 use Rattle.blob_items.specs.declared.view.View.{View}
 use Rattle.blob_entries.specs.Statuses.{is_broken}
 use Rattle.blob_entries.specs.declared.entry.Entry.{Entry}
-use Rattle.blob_model.specs.Builds.{Build, builds, built}
+use Rattle.blob_model.specs.Builds.{builds, built}
 use Rattle.blob_model.specs.History.{History, history_from, start}
 use Rattle.blob_model.specs.Legal.{IsLegalFrom}
 use Rattle.blob_model.specs.Order.{named}
 use Rattle.blob_model.specs.Parts.{own_lengths, parts_length, sources}
-use Rattle.blob_model.specs.Pieces.{pieces, spans_of}
+use Rattle.blob_model.specs.Pieces.{pieces}
 use Rattle.blob_model.specs.Session.{Session, page_limit}
 use Rattle.blob_model.specs.Standing.{ended, was_granted}
 use Rattle.blob_model.specs.Transport.{arrivals, spans}

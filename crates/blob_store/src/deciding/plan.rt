@@ -36,7 +36,8 @@ impl Parts {
     pub(crate) fn plan_for(&self, parts: &[Part]) -> Result<Plan, NoMemory>
         requires { parts_length parts.now ≤ 2 ^ 62 }
         ensures value { IfOk result (λ plan. plan ≡ plan_in (parts_of self.now) parts.now) }
-        ensures fits { IfOk result (λ plan. FitsPlan (input_in (parts_of self.now) parts.now) plan) }
+        ensures fits { IfOk result (λ plan.
+            FitsPlan (input_in (parts_of self.now) parts.now) plan) }
     {
         let input = self.plan_input(parts)?;
         Ok(plan(&input))

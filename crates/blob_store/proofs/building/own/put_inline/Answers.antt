@@ -1,5 +1,5 @@
 -- The spans of the own pieces lie inside the bytes of the line.
-use Rattle.std.proofs.Common.{◌≡◌, ℕ, ◌≤◌, List, length, map, sum_by, sym, ap, subst, ◌∙◌, arith}
+use Rattle.std.proofs.Common.{◌≡◌, ℕ, List, length, map, sum_by, sym, ap, subst, ◌∙◌, arith}
 use Rattle.std.specs.List.{AllByRecursion}
 use Rattle.item_shares.specs.declared.item.Item.{Item}
 use Rattle.blob_model.specs.Parts.{embedded, own_lengths}

@@ -1,10 +1,6 @@
 -- One item more.
-use Rattle.std.proofs.Common.{◌≡◌, ℕ, ◌+◌, List, [], ◌∷◌, ◌++◌, Option, refl, sym, ap, ◌∙◌, subst}
-use Rattle.blob_items.specs.declared.view.View.{View}
-use Rattle.item_shares.specs.declared.item.Item.{Item}
-use Rattle.item_shares.specs.declared.shares.Share.{Share}
+use Rattle.std.proofs.Common.{◌≡◌, ℕ, ap}
 use Rattle.store_laws.specs.Items.{item_length}
-use Rattle.blob_store.specs.Putting.{ArePut}
 use Rattle.blob_store.proofs.Putting.{put_more}
 use Rattle.blob_store.proofs.building.putting.put_item.Goals as goal
 

@@ -1,5 +1,5 @@
 -- The range of one part more.
-use Rattle.std.proofs.Common.{◌≡◌, ◌+◌, List, get_or, take, sym, ap, subst, arith}
+use Rattle.std.proofs.Common.{List, take, sym, ap, subst, arith}
 use Rattle.std.proofs.lemmas.List.Sums.{sum_by_more}
 use Rattle.item_shares.specs.declared.item.Item.{Item}
 use Rattle.blob_model.specs.Parts.{part_length}

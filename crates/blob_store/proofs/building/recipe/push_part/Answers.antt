@@ -1,5 +1,5 @@
 -- The number of the next piece.
-use Rattle.std.proofs.Common.{◌≡◌, ℕ, ◌+◌, List, [], ◌∷◌, length, ap, sym, ◌∙◌, arith}
+use Rattle.std.proofs.Common.{◌≡◌, ℕ, [], ◌∷◌, ap, sym, ◌∙◌, arith}
 use Rattle.blob_model.specs.Parts.{own_length}
 use Rattle.session_script.specs.declared.event.Part.{Part}
 use Rattle.transport_plan.specs.Spans.{piece_count}

@@ -1,14 +1,12 @@
 -- One slot more passes, or is refused.
-use Rattle.std.proofs.Common.{◌≡◌, ℕ, ◌||◌, Bool, true, false, List, Option, Some, get_or, take, refl, sym, subst, ap, ◌∙◌, arith}
-use Rattle.std.specs.Prelude.{nat_le}
-use Rattle.answer_text.specs.declared.refusal.Refusal.{Refusal}
+use Rattle.std.proofs.Common.{◌≡◌, ℕ, ◌||◌, Bool, true, false, List, get_or, take, sym, subst, ap, ◌∙◌}
 use Rattle.data_handles.specs.Boxes.{of_table}
 use Rattle.data_handles.specs.Handles.{Handle}
 use Rattle.data_handles.specs.Table.{is_claimed_at, SlotFaultAt, Table}
 use Rattle.data_handles.specs.contracts.boxed.BoxedDataHandle.TheImpl.{seen-value}
 use Rattle.data_handles.specs.declared.fault.SlotFault.{SlotFault}
 use Rattle.blob_model.specs.Refusals.{is_in}
-use Rattle.blob_store.proofs.Slots.{claimed_within, held_within, second_held, told_later, told_taken, ToldFrom}
+use Rattle.blob_store.proofs.Slots.{claimed_within, held_within, second_held, told_later, told_taken}
 use Rattle.blob_store.proofs.deciding.slots.slot_refusal.Goals as goal
 
 pub returns-in-Err-Claimed : goal.returns-in-Err-Claimed

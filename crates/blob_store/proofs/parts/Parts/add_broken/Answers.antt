@@ -1,6 +1,5 @@
 -- It can be entered, and the parts are whole with it.
-use Rattle.std.proofs.Common.{◌≡◌, ◌<◌, sym, ap, subst, ◌∙◌}
-use Rattle.blob_store.specs.Adding.{Breaks}
+use Rattle.std.proofs.Common.{sym, subst, ◌∙◌}
 use Rattle.blob_store.specs.Entering.{arrived, Enters}
 use Rattle.blob_store.specs.Whole.{IsWhole}
 use Rattle.blob_store.specs.declared.building.entering.Arrival.{Arrival}

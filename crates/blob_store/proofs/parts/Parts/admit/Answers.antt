@@ -1,6 +1,6 @@
 -- A blob that may come can be added, or breaks.
-use Rattle.std.proofs.Common.{◌≡◌, ◌<◌, Option, Some, None, true, false, refl, sym, ap, subst, ◌∙◌}
-use Rattle.std.specs.Prelude.{fold, is_none, is_some}
+use Rattle.std.proofs.Common.{◌≡◌, Option, Some, None, true, false, refl, sym, ap, subst, ◌∙◌}
+use Rattle.std.specs.Prelude.{fold, is_some}
 use Rattle.blob_words.specs.declared.plan.Plan.{Plan}
 use Rattle.blob_words.specs.declared.status.Status.{Status}
 use Rattle.answer_text.specs.declared.answer.Answer.TheVariants as answers

@@ -1,5 +1,5 @@
 -- The slots' refusal, else that of too many blobs, else that of one that has too much.
-use Rattle.std.proofs.Common.{◌≡◌, ℕ, ◌<◌, ◌≤◌, Bool, true, false, not, List, length, Option, Some, None, IfOk, sym, ap, subst, ◌∙◌, arith}
+use Rattle.std.proofs.Common.{◌≡◌, ℕ, ◌<◌, ◌≤◌, false, not, List, length, Option, Some, None, IfOk, sym, ap, subst, ◌∙◌, arith}
 use Rattle.std.specs.Prelude.{is_none, is_some}
 use Rattle.blob_words.specs.declared.bounds.TheConstants.{MOST_BLOBS}
 use Rattle.answer_text.specs.declared.refusal.Refusal.{Refusal}

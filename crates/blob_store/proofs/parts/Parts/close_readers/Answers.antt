@@ -7,7 +7,7 @@ use Rattle.blob_store.specs.declared.readers.OpenReader.{OpenReader}
 use Rattle.blob_store.specs.Holders.{IsUnread}
 use Rattle.blob_store.specs.Seen.{reader_of}
 use Rattle.blob_store.specs.Whole.{IsWhole, Whole}
-use Rattle.blob_store.proofs.Leaving.{fewer_open, held_open, left_seen, readers_leave, rerooted_by, whole_unread}
+use Rattle.blob_store.proofs.Leaving.{left_seen, readers_leave, rerooted_by, whole_unread}
 use Rattle.blob_store.proofs.parts.Parts.close_readers.Goals as goal
 
 pub loop-open-init : goal.loop-open-init

@@ -1,5 +1,5 @@
 -- How many there are are the model's, and fit their words.
-use Rattle.std.proofs.Common.{ℕ, List, length, ap, ◌∙◌, sym, arith}
+use Rattle.std.proofs.Common.{ℕ, List, length, ap, ◌∙◌, arith}
 use Rattle.blob_store.specs.Says.{Says}
 use Rattle.blob_store.specs.Whole.{IsWhole}
 use Rattle.blob_store.proofs.Few.{standing_few, waiting_few}

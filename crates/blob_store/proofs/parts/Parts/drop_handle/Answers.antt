@@ -1,5 +1,5 @@
 -- A renderer that isn't alive, one without a handle, and one handle fewer.
-use Rattle.std.proofs.Common.{◌≡◌, Some, None, ap, ◌∙◌, sym, subst}
+use Rattle.std.proofs.Common.{ap, ◌∙◌, sym, subst}
 use Rattle.answer_text.specs.declared.refusal.Refusal.TheVariants as refusals
 use Rattle.session_script.specs.declared.event.Event.TheVariants as events
 use Rattle.blob_entries.specs.Book.{Book}

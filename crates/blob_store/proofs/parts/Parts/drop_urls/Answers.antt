@@ -1,5 +1,5 @@
 -- One URL after the other goes, and then none is left.
-use Rattle.std.proofs.Common.{ℕ, List, refl, sym, ap, subst}
+use Rattle.std.proofs.Common.{refl, sym, ap, subst}
 use Rattle.blob_entries.specs.Book.{Book}
 use Rattle.store_laws.specs.TableLaws.{no_url, one_url}
 use Rattle.blob_store.specs.declared.parts.Parts.{Parts}

@@ -1,5 +1,5 @@
 -- One renderer after the other dies, and then nobody is alive.
-use Rattle.std.proofs.Common.{◌≡◌, [], ◌∷◌, refl, ap, ◌∙◌, subst, sym}
+use Rattle.std.proofs.Common.{[], ◌∷◌, refl, ap, ◌∙◌, subst, sym}
 use Rattle.std.specs.Option.{option_map}
 use Rattle.answer_text.specs.declared.answer.Answer.TheVariants as answers
 use Rattle.session_script.specs.declared.event.Event.TheVariants as events

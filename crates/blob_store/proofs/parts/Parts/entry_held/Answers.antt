@@ -1,6 +1,6 @@
 -- A blob on which there is a handle stands.
 use Rattle.std.proofs.Common.{◌≡◌, ℕ, ◌<◌, Option, Some, sym, subst, ◌∙◌}
-use Rattle.std.specs.Prelude.{IsSome, IsSomeAnd}
+use Rattle.std.specs.Prelude.{IsSome}
 use Rattle.blob_entries.specs.Book.{entry_at}
 use Rattle.blob_entries.specs.Names.{number_of}
 use Rattle.blob_entries.specs.declared.entry.Entry.{Entry}

@@ -1,5 +1,5 @@
 -- The own pieces behind the ranges.
-use Rattle.std.proofs.Common.{◌≡◌, List, [], false, length, map, replicate, ◌∙◌, sym, ap, subst, arith}
+use Rattle.std.proofs.Common.{◌≡◌, List, false, length, map, replicate, ◌∙◌, sym, ap, subst, arith}
 use Rattle.blob_words.specs.declared.plan.Plan.{Plan}
 use Rattle.blob_words.specs.declared.plan.Plan.TheVariants as plans
 use Rattle.blob_items.specs.declared.view.View.{View}
@@ -39,7 +39,8 @@ returns-in_ok-lay_waiting-in-Shared c =
 
 pub returns-in_ok-sending-in-File : goal.returns-in_ok-sending-in-File
 returns-in_ok-sending-in-File c =
-    let sending : c.in_ok-sending-in-File.sending ≡ Writing (map slot_of c.in_ok-pieces-in-File.pieces) (replicate (length c.in_ok-pieces-in-File.pieces) false) =
+    let sending : c.in_ok-sending-in-File.sending
+    ≡ Writing (map slot_of c.in_ok-pieces-in-File.pieces) (replicate (length c.in_ok-pieces-in-File.pieces) false) =
     c.in_ok-sending-in-File.ensures
     ∙ ap (λ (views : List View). Writing (map slot_of views) (replicate (length views) false)) c.as_slice.ensures in
     subst (λ (plan : Plan). Lays c.args.name plan c.args.parts.now c.args.self.now

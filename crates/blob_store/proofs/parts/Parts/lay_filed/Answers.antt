@@ -1,5 +1,5 @@
 -- As many pieces are held more as there are views.
-use Rattle.std.proofs.Common.{◌≡◌, ℕ, List, length, ap, ◌∙◌, arith}
+use Rattle.std.proofs.Common.{◌≡◌, List, length, ap, ◌∙◌, arith}
 use Rattle.blob_items.specs.declared.view.View.{View}
 use Rattle.blob_model.specs.Parts.{own_lengths}
 use Rattle.transport_plan.specs.Spans.{piece_count}

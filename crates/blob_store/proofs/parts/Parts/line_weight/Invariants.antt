@@ -1,4 +1,4 @@
-use Rattle.std.proofs.Common.{◌≡◌, ℕ, ◌*◌, ◌≤◌, ◌^◌, take}
+use Rattle.std.proofs.Common.{◌≡◌, ◌*◌, ◌≤◌, ◌^◌, take}
 use Rattle.store_laws.specs.Deciding.{line_weight_in}
 use Rattle.blob_store.specs.Seen.{parts_of}
 use Rattle.blob_store.proofs.parts.Parts.line_weight.Given as goal

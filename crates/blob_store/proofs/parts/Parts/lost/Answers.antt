@@ -1,11 +1,10 @@
 -- A job that is lost, and one that isn't in flight.
-use Rattle.std.proofs.Common.{◌≡◌, [], ◌∷◌, ap, subst, sym}
+use Rattle.std.proofs.Common.{[], ◌∷◌, ap, subst, sym}
 use Rattle.answer_text.specs.declared.answer.Answer.TheVariants as answers
 use Rattle.answer_text.specs.declared.refusal.Refusal.TheVariants as refusals
 use Rattle.session_script.specs.declared.event.Event.TheVariants as events
 use Rattle.page_files.specs.Files.{Files}
 use Rattle.blob_model.specs.History.{history_from, start}
-use Rattle.blob_store.specs.declared.parts.Parts.{Parts}
 use Rattle.blob_store.specs.Says.{scene, IsHeard, Says}
 use Rattle.blob_store.specs.Whole.{IsWhole, Whole}
 use Rattle.blob_store.proofs.Heard.{heard_still}

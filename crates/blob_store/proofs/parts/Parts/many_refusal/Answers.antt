@@ -1,5 +1,5 @@
 -- A blob without a status at its line doesn't break there.
-use Rattle.std.proofs.Common.{◌≡◌, Bool, true, List, Option, None, IfOk, sym, ap, subst, ◌∙◌}
+use Rattle.std.proofs.Common.{◌≡◌, Bool, Option, IfOk, sym, ap, subst, ◌∙◌}
 use Rattle.std.specs.Prelude.{is_none}
 use Rattle.blob_words.specs.declared.status.Status.{Status}
 use Rattle.blob_model.specs.Choice.{first_that}

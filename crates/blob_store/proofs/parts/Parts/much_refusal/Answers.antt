@@ -1,5 +1,5 @@
 -- The own bytes are few.
-use Rattle.std.proofs.Common.{◌≡◌, ℕ, ◌≤◌, sum, ap, ◌∙◌, arith}
+use Rattle.std.proofs.Common.{◌≡◌, sum, ap, ◌∙◌, arith}
 use Rattle.blob_model.specs.Parts.{own_bytes}
 use Rattle.blob_store.proofs.OwnBytes.{own_within}
 use Rattle.blob_store.proofs.parts.Parts.much_refusal.Goals as goal

@@ -1,5 +1,5 @@
 -- What is laid down can be entered.
-use Rattle.std.proofs.Common.{◌≡◌, ℕ, ◌<◌, length, refl, sym, ap, subst, ◌∙◌, arith}
+use Rattle.std.proofs.Common.{◌≡◌, refl, sym, subst, ◌∙◌}
 use Rattle.blob_registry.specs.Registering.{CanRegister}
 use Rattle.blob_store.specs.Adding.{arrival_of}
 use Rattle.blob_store.specs.Entering.{arrived, AreAtHand, Enters}

@@ -1,5 +1,5 @@
 -- The own bytes are few.
-use Rattle.std.proofs.Common.{◌≡◌, ℕ, ◌+◌, ◌-◌, ◌≤◌, length, ap, arith}
+use Rattle.std.proofs.Common.{◌≡◌, ◌-◌, length, ap, arith}
 use Rattle.transport_plan.specs.declared.input.PlanInput.{PlanInput}
 use Rattle.blob_model.specs.Parts.{embedded, own_bytes}
 use Rattle.blob_model.proofs.kept.NewBlobs.{embedded_within}

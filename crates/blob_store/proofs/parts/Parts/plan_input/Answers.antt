@@ -1,6 +1,6 @@
 -- The own bytes are few.
-use Rattle.std.proofs.Common.{◌≡◌, ℕ, ◌≤◌, ◌-◌, Fits, w64, length, sum, ap, ◌∙◌, arith}
-use Rattle.blob_model.specs.Parts.{embedded, own_bytes, own_lengths}
+use Rattle.std.proofs.Common.{◌≡◌, sum, ap, ◌∙◌, arith}
+use Rattle.blob_model.specs.Parts.{own_bytes}
 use Rattle.blob_model.proofs.kept.NewBlobs.{embedded_within}
 use Rattle.blob_store.proofs.OwnBytes.{own_within}
 use Rattle.blob_store.proofs.parts.Parts.plan_input.Goals as goal

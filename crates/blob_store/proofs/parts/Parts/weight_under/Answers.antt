@@ -1,5 +1,5 @@
 -- The row beside an entry that stands, and none beside one that doesn't.
-use Rattle.std.proofs.Common.{◌≡◌, ℕ, List, ap, sym, ◌∙◌, Option, Some, None, Bor}
+use Rattle.std.proofs.Common.{List, ap, sym, ◌∙◌, Option, Bor}
 use Rattle.std.specs.Prelude.{is_none, slice_get}
 use Rattle.std.specs.Option.{option_copied, option_map_or}
 use Rattle.blob_entries.specs.declared.entry.Entry.{Entry}
