@@ -124,6 +124,16 @@ handles_once table shares line k known few none =
     by true at once = omega (arith, few, once.0 (known k at))
     by false at once = omega (arith, unheld_weighs k shares at, once.1)
 
+-- ---- why a blob breaks at its line
+
+abbrev line_tests : Parts → Table → ℕ → ℕ → List Part → List (Bool × Status)
+line_tests parts table renderer name line =
+    (list_any (is_invalid_in (parts_of parts) table renderer name) line || nat_lt (2 ^ 62) (parts_length line), statuses.InvalidArguments)
+    ∷ (list_any (is_lost_in (parts_of parts) renderer) line, statuses.ReferencedBlobBroken)
+    ∷ (list_any (is_unrecorded_in (parts_of parts)) line, statuses.ReferencedFileUnavailable)
+    ∷ (is_out_of_memory (plan_in (parts_of parts) line), statuses.OutOfMemory)
+    ∷ []
+
 -- ---- sources
 
 module _ (parts : Parts) (whole : Whole parts) (table : Table) (renderer name : ℕ) where
@@ -250,16 +260,8 @@ module _ (parts : Parts) (whole : Whole parts) (table : Table) (known : (k : ℕ
     (stands : line_status_in (parts_of parts) table renderer.0 name line ≡ None) (plan : Plan) (is : plan ≡ plan_in (parts_of parts) line)
     (fits : FitsPlan (input_in (parts_of parts) line) plan) (used : parts.quota.used ≤ parts.quota.limit) where
   -- why it doesn't break
-  abbrev tests : List (Bool × Status)
-  tests =
-      (list_any (is_invalid_in (parts_of parts) table renderer.0 name) line || nat_lt (2 ^ 62) (parts_length line), statuses.InvalidArguments)
-      ∷ (list_any (is_lost_in (parts_of parts) renderer.0) line, statuses.ReferencedBlobBroken)
-      ∷ (list_any (is_unrecorded_in (parts_of parts)) line, statuses.ReferencedFileUnavailable)
-      ∷ (is_out_of_memory (plan_in (parts_of parts) line), statuses.OutOfMemory)
-      ∷ []
-
-  status_tests : AllByRecursion (λ (case : Bool × Status). case.0 ≡ false) tests
-  status_tests = none_applies tests stands
+  status_tests : AllByRecursion (λ (case : Bool × Status). case.0 ≡ false) (line_tests parts table renderer.0 name line)
+  status_tests = none_applies (line_tests parts table renderer.0 name line) stands
 
   -- why it isn't refused
   abbrev Passes : Type 0
@@ -293,29 +295,13 @@ module _ (parts : Parts) (whole : Whole parts) (table : Table) (known : (k : ℕ
 pub breaks_so : (parts : Parts) (table : Table) (renderer name : ℕ) (line : List Part) (why : Status)
     → line_status_in (parts_of parts) table renderer name line ≡ Some why → is_broken why ≡ true
 breaks_so parts table renderer name line why is =
-    some_that (λ (status : Status). is_broken status ≡ true)
-    (
-    (list_any (is_invalid_in (parts_of parts) table renderer name) line || nat_lt (2 ^ 62) (parts_length line), statuses.InvalidArguments)
-    ∷ (list_any (is_lost_in (parts_of parts) renderer) line, statuses.ReferencedBlobBroken)
-    ∷ (list_any (is_unrecorded_in (parts_of parts)) line, statuses.ReferencedFileUnavailable)
-    ∷ (is_out_of_memory (plan_in (parts_of parts) line), statuses.OutOfMemory)
-    ∷ []
-    )
-    why (refl, (refl, (refl, (refl, tt)))) is
+    some_that (λ (status : Status). is_broken status ≡ true) (line_tests parts table renderer name line) why (refl, (refl, (refl, (refl, tt)))) is
 
 -- one that doesn't break has few bytes
 pub few_bytes : (parts : Parts) (table : Table) (renderer name : ℕ) (line : List Part) → line_status_in (parts_of parts) table renderer name line ≡ None
     → parts_length line ≤ 2 ^ 62
 few_bytes parts table renderer name line stands =
-    let tests = none_applies
-    (
-    (list_any (is_invalid_in (parts_of parts) table renderer name) line || nat_lt (2 ^ 62) (parts_length line), statuses.InvalidArguments)
-    ∷ (list_any (is_lost_in (parts_of parts) renderer) line, statuses.ReferencedBlobBroken)
-    ∷ (list_any (is_unrecorded_in (parts_of parts)) line, statuses.ReferencedFileUnavailable)
-    ∷ (is_out_of_memory (plan_in (parts_of parts) line), statuses.OutOfMemory)
-    ∷ []
-    )
-    stands in
+    let tests = none_applies (line_tests parts table renderer name line) stands in
     ltb-false (2 ^ 62) (parts_length line)
     (or_parts (list_any (is_invalid_in (parts_of parts) table renderer name) line) (nat_lt (2 ^ 62) (parts_length line)) tests.0).1
 
