@@ -31,7 +31,7 @@ use Rattle.store_laws.specs.BuildLaws.{Adds, AreListed, AreThere, BuildsAdd, Gro
 use Rattle.store_laws.specs.Cells.{piece_in}
 use Rattle.store_laws.specs.PageFiles.{writes}
 use Rattle.store_laws.specs.PageLaws.{numbered_pages}
-use Rattle.store_laws.proofs.Growing.{contents_grow}
+use Rattle.store_laws.proofs.ContentsGrow.{contents_grow}
 use Rattle.store_laws.proofs.PageNumbers.{pages_in_turn}
 
 -- ---- what is listed is there

@@ -1,12 +1,11 @@
--- Entries, items and charges stand for the history with a new blob.
-use Rattle.std.proofs.Common.{◌≡◌, ⊎_elim, ℕ, zero, suc, ◌+◌, ◌≤◌, ◌<◌, ◌==◌, ◌&&◌, ◌||◌, not, Bool, true, false, List, [], ◌∷◌, ◌++◌, map, take, drop, length, refl, ap, subst, sym, ◌∙◌, Option, Some, None, cond, arith}
+-- What stays as it was of blobs and pieces where a blob comes.
+use Rattle.std.proofs.Common.{◌≡◌, ℕ, ◌+◌, ◌≤◌, ◌<◌, ◌==◌, ◌&&◌, ◌||◌, not, Bool, true, false, List, [], ◌∷◌, ◌++◌, map, take, drop, length, refl, ap, subst, sym, ◌∙◌, Option, Some, None, cond, arith}
 use Rattle.std.specs.Prelude.{filter, filter_map, flat_map, is_none, is_some, sum_by, take_while, unwrap_or, reverse, IfSome, IsSome, IsSomeAnd}
 use Rattle.std.specs.Option.{option_and_then, option_map, option_map_or}
 use Rattle.std.specs.List.{AllByRecursion, list_any, prefix_len, range_with_len}
-use Rattle.std.proofs.lemmas.Bool.{eqb-true, eq-eqb}
-use Rattle.std.proofs.lemmas.List.{append-nil, map-append, length-map}
+use Rattle.std.proofs.lemmas.Bool.{eq-eqb}
+use Rattle.std.proofs.lemmas.List.{append-nil}
 use Rattle.std.proofs.lemmas.List.Elements.{filter-append}
-use Rattle.std.proofs.lemmas.List.Sums.{sum_by-cons}
 use Rattle.blob_words.specs.declared.plan.Plan.{Plan}
 use Rattle.blob_words.specs.declared.plan.Plan.TheVariants as plans
 use Rattle.blob_words.specs.declared.status.Status.{Status}
@@ -17,7 +16,6 @@ use Rattle.item_shares.specs.declared.shares.Share.{Share}
 use Rattle.item_shares.specs.Shares.{item_at}
 use Rattle.item_shares.specs.Weights.{weights}
 use Rattle.blob_items.specs.declared.view.View.{View}
-use Rattle.blob_entries.specs.Book.{Book, book_of}
 use Rattle.blob_entries.specs.Holdings.{fixed_views, held_views, own_views}
 use Rattle.blob_entries.specs.Statuses.{is_pending}
 use Rattle.blob_entries.specs.declared.entry.Entry.{Entry}
@@ -27,135 +25,41 @@ use Rattle.page_files.specs.declared.held.Held.{Held}
 use Rattle.page_files.specs.declared.page.Page.{Page as FilePage}
 use Rattle.page_files.specs.Files.{Files, left_of}
 use Rattle.page_files.specs.Pages.{pieces_of as held_in}
-use Rattle.quota_queue.specs.Queue.{Queue}
 use Rattle.blob_model.specs.Builds.{Build, Cell, builds, build_in, cells_in, size}
 use Rattle.blob_model.specs.Changes.{piece_bytes}
 use Rattle.blob_model.specs.History.{History}
 use Rattle.blob_model.specs.Jobs.{Job, in_flight, is_in_job}
-use Rattle.blob_model.specs.Live.{has_source}
-use Rattle.blob_model.specs.Order.{AreOrdered, named}
+use Rattle.blob_model.specs.Order.{named}
 use Rattle.blob_model.specs.Pages.{Page, in_memory, in_page, reserved, is_memory, page_with, pages, place, place_by, place_in}
-use Rattle.blob_model.specs.Parts.{own_bytes, own_lengths, sources}
+use Rattle.blob_model.specs.Parts.{own_lengths, sources}
 use Rattle.blob_model.specs.Pieces.{Piece, length_in, numbered, pieces, pieces_from, spans_of}
 use Rattle.blob_model.specs.Reached.{is_granted_piece}
 use Rattle.blob_model.specs.Session.{Session, page_limit}
-use Rattle.blob_model.specs.Standing.{grants_at_once, is_done, is_done_status, is_granted, is_unfinished}
+use Rattle.blob_model.specs.Standing.{grants_at_once, is_done, is_done_status, is_granted}
 use Rattle.blob_model.specs.Tally.{in_memory_of}
 use Rattle.blob_model.specs.Transport.{Arrival, brought, byte_by_plan, byte_from, has_come, sent_byte, spans}
 use Rattle.blob_model.specs.Value.{value}
 use Rattle.blob_model.specs.Builds.{sent}
 use Rattle.blob_model.specs.Victims.{with_length}
-use Rattle.blob_model.specs.Waits.{is_shared, is_waiting, waits}
-use Rattle.blob_model.proofs.Lists.{all_members, all_numbered, all_reverse, any_parts, append_second, false_true, filter_all, filter_none, for_both, for_each, found_all, not_same, or_cases, or_first, or_second}
-use Rattle.blob_model.proofs.builds.PieceNumbers.{AreNumbered, all_by_number, found_append, pieces_numbered}
+use Rattle.blob_model.specs.Waits.{is_shared, is_waiting}
+use Rattle.blob_model.proofs.Lists.{all_numbered, all_reverse, append_second, false_true, filter_all, filter_none, for_both, for_each, found_all, not_same}
+use Rattle.blob_model.proofs.builds.PieceNumbers.{all_by_number, found_append, pieces_numbered}
 use Rattle.blob_model.proofs.memory.Builds.{found_more, numbered_named, pieces_more, pieces_named}
-use Rattle.registry_laws.specs.Agree.{Beside, breaks_as, source_names, step_name}
-use Rattle.store_laws.specs.BuildLaws.{now_waiting, Adds, ContentsGrow, AreAdded, AreListed, AreThere, IsEntered, IsNew, IsUnpaged}
+use Rattle.registry_laws.specs.Agree.{source_names, step_name}
+use Rattle.store_laws.specs.BuildLaws.{Adds, AreAdded, AreListed, AreThere, IsNew, IsUnpaged}
 use Rattle.store_laws.specs.Cells.{piece_in, piece_cell, item_cell, cell_at, cell_by, denoted}
 use Rattle.store_laws.specs.Items.{IsInside, IsLongAs, IsPlaced, holds_piece, is_number, item_length, piece_at, piece_by, piece_of_item}
-use Rattle.store_laws.specs.LineLaws.{AreUnmarked}
-use Rattle.store_laws.specs.Outlines.{Outline, outline, outline_of, status_now, IsMarkedRight}
+use Rattle.store_laws.specs.Outlines.{status_now}
 use Rattle.store_laws.specs.PageFiles.{is_paged_in, IsSlotOf, PageFacts, PagesStand, gone, holds_paged, placed_from, sheet_of, sheets_from, whole, with_held}
-use Rattle.store_laws.specs.Recipes.{EntryStands, IsStep, RowsBeside, StandsFor, own_cells, own_step_cells, recipe_cells, step_cells}
-use Rattle.store_laws.specs.Rows.{AreWritten, Coming, Row, bare, coming_by, coming_of, gathering, gathers, is_gathered, pieces_before, row_of, settled, waiting, writing}
-use Rattle.store_laws.specs.Stands.{ContentsStand}
+use Rattle.store_laws.specs.Recipes.{EntryStands, IsStep, StandsFor, own_cells, own_step_cells, recipe_cells, step_cells}
+use Rattle.store_laws.specs.Rows.{AreWritten, Coming, Row, coming_by, coming_of, gathering, gathers, is_gathered, pieces_before, row_of, settled, waiting, writing}
 use Rattle.store_laws.specs.Uses.{facts_of, held_pieces, is_held, offset_in, order_of, own_pieces, page_facts_of, pageable_of}
-use Rattle.store_laws.specs.ReachLaws.{IsAtRest}
 use Rattle.store_laws.specs.Weights.{reserved_weight}
 use Rattle.store_laws.proofs.Denoted.{cells-same}
 use Rattle.store_laws.proofs.HeldCounts.{at_slot, slot_of}
-use Rattle.store_laws.proofs.Paired.{AreOutlined, IsTold, by_first, first_of, pending_now, rest_of}
-use Rattle.store_laws.proofs.Unmarked.{unmarked_right}
 use Rattle.store_laws.proofs.ViewHas.{append_first}
 use Rattle.store_laws.proofs.Viewed.{iff_true}
-
--- ---- lists with one more
-
-map-more : {X Y : Type 0} (f g : X → Y) (list : List X) (x : X) (y : Y) → AllByRecursion (λ (each : X). f each ≡ g each) list → f x ≡ y
-    → map f (list ++ x ∷ []) ≡ map g list ++ y ∷ []
-map-more {Y = Y} f g [] x y all last = ap (λ (one : Y). one ∷ []) last
-map-more f g (each ∷ list) x y all last = λ i. all.0 i ∷ map-more f g list x y all.1 last i
-
-filter-each : {X : Type 0} (p q : X → Bool) (list : List X) → AllByRecursion (λ (each : X). p each ≡ q each) list → filter p list ≡ filter q list
-filter-each p q [] all = refl
-filter-each {X = X} p q (x ∷ list) all = λ i. cond {A = List X} (all.0 i) (x ∷ filter-each p q list all.1 i) (filter-each p q list all.1 i)
-
-beside_more : (P : Build → Option Entry → Type 0) (list : List Build) (entries : List (Option Entry)) (build : Build) (held : Option Entry)
-    → Beside P list entries → P build held → Beside P (list ++ build ∷ []) (entries ++ held ∷ [])
-beside_more P [] [] build held all one = (one, tt)
-beside_more P [] (other ∷ entries) build held all one = absurd all
-beside_more P (each ∷ list) [] build held all one = absurd all
-beside_more P (each ∷ list) (other ∷ entries) build held all one = (all.0, beside_more P list entries build held all.1 one)
-
-beside_both : (A P Q : Build → Option Entry → Type 0) (list : List Build) (entries : List (Option Entry))
-    → ((build : Build) (held : Option Entry) → A build held → P build held → Q build held) → Beside A list entries → Beside P list entries
-    → Beside Q list entries
-beside_both A P Q [] [] step all is = tt
-beside_both A P Q [] (held ∷ entries) step all is = absurd is
-beside_both A P Q (build ∷ list) [] step all is = absurd is
-beside_both A P Q (build ∷ list) (held ∷ entries) step all is = (step build held all.0 is.0, beside_both A P Q list entries step all.1 is.1)
-
-rows_each : (C : Build → Type 0) (P Q : Build → Row → Type 0) (list : List Build) (rows : List (Option Row)) (build : Build) (row : Row)
-    → length rows ≡ length list → ((each : Build) (held : Row) → C each → P each held → Q each held) → AllByRecursion C list → RowsBeside P list rows
-    → Q build row → RowsBeside Q (list ++ build ∷ []) (rows ++ Some row ∷ [])
-rows_each C P Q [] [] build row same step all is last = (last, tt)
-rows_each C P Q [] (held ∷ rows) build row same step all is last = absurd (omega (arith, same))
-rows_each C P Q (each ∷ list) [] build row same step all is last = absurd (omega (arith, same))
-rows_each C P Q (each ∷ list) (None ∷ rows) build row same step all is last = rows_each C P Q list rows build row (omega (arith, same)) step all.1 is last
-rows_each C P Q (each ∷ list) (Some held ∷ rows) build row same step all is last =
-    (step each held all.0 is.0, rows_each C P Q list rows build row (omega (arith, same)) step all.1 is.1 last)
-
--- what is found by its number lies below the end of the numbers
-found_low : (n number : ℕ) (list : List Piece) (one : Piece) → AreNumbered n list → piece_in list number ≡ Some one → number < n + length list
-found_low n number [] one all found = cc
-found_low n number (piece ∷ list) one all found = go (piece.number == number) refl found (found_low (n + 1) number list one all.1)
-  where
-    go : (b : Bool) → (piece.number == number) ≡ b → cond b (Some piece) (piece_in list number) ≡ Some one
-        → (piece_in list number ≡ Some one → number < (n + 1) + length list) → number < n + length (piece ∷ list)
-    go true at f rest = let same = eqb-true piece.number number at in let first = all.0 in omega (arith, same, first)
-    go false at f rest = let later = rest f in omega (arith, later)
-
-sum_each : {X : Type 0} (f g : X → ℕ) (list : List X) → AllByRecursion (λ (x : X). f x ≡ g x) list → sum_by f list ≡ sum_by g list
-sum_each f g [] all = refl
-sum_each f g (x ∷ list) all = sum_by-cons f x list ∙ (λ i. all.0 i + sum_each f g list all.1 i) ∙ sym (sum_by-cons g x list)
-
-front_each : {X : Type 0} (P : X → Type 0) (n : ℕ) (list : List X) → AllByRecursion P list → AllByRecursion P (take n list)
-front_each P zero list all = tt
-front_each P (suc n) [] all = tt
-front_each P (suc n) (x ∷ list) all = (all.0, front_each P n list all.1)
-
-some_is : {X : Type 0} (o : Option X) → IsSome o → (x : X) × (o ≡ Some x)
-some_is None is = absurd (false_true is)
-some_is (Some x) is = (x, refl)
-
--- the slot of an item that passes a test, where some does
-slot_that : (test : Item → Bool) (shares : List (Option Share))
-    → list_any (λ (held : Option Share). option_map_or (λ (share : Share). test share.item) held false) shares ≡ true
-    → (slot : ℕ) × (item : Item) × (item_at shares slot ≡ Some item) × (test item ≡ true)
-slot_that test [] is = absurd (false_true is)
-slot_that test (None ∷ shares) is = let rest = slot_that test shares is in (suc rest.0, rest.1, rest.2, rest.3)
-slot_that test (Some share ∷ shares) is = go (test share.item) refl is (slot_that test shares)
-  where
-    go : (b : Bool) → test share.item ≡ b
-        → (b || list_any (λ (held : Option Share). option_map_or (λ (one : Share). test one.item) held false) shares) ≡ true
-        → (list_any (λ (held : Option Share). option_map_or (λ (one : Share). test one.item) held false) shares ≡ true
-        → (slot : ℕ) × (item : Item) × (item_at shares slot ≡ Some item) × (test item ≡ true))
-        → (slot : ℕ) × (item : Item) × (item_at (Some share ∷ shares) slot ≡ Some item) × (test item ≡ true)
-    go true at is rest = (0, share.item, refl, at)
-    go false at is rest = let more = rest is in (suc more.0, more.1, more.2, more.3)
-
-slot_has : (test : Item → Bool) (shares : List (Option Share)) (slot : ℕ) (item : Item) → item_at shares slot ≡ Some item → test item ≡ true
-    → list_any (λ (held : Option Share). option_map_or (λ (share : Share). test share.item) held false) shares ≡ true
-slot_has test [] slot item at is = absurd (cc at)
-slot_has test (held ∷ shares) zero item at is = or_first (option_map_or (λ (share : Share). test share.item) held false) _ (here held at)
-  where
-    here : (o : Option Share) → option_map (λ (share : Share). share.item) o ≡ Some item → option_map_or (λ (share : Share). test share.item) o false ≡ true
-    here None at = absurd (cc at)
-    here (Some share) at = let same : share.item ≡ item = cc in ap test same ∙ is
-slot_has test (held ∷ shares) (suc slot) item at is =
-    or_second (option_map_or (λ (share : Share). test share.item) held false) _ (slot_has test shares slot item at is)
-
--- ---- what stays as it was of blobs and pieces
+use Rattle.store_laws.proofs.GrownLists.{filter-each, found_low, front_each, slot_has, slot_that, some_is, sum_each}
 
 module _ (s : Session) (h later : History) (new : Build) (adds : Adds s h later new) where
   abbrev page : ℕ
@@ -168,13 +72,13 @@ module _ (s : Session) (h later : History) (new : Build) (adds : Adds s h later 
   all = pieces page h
 
   -- a blob of before, by its name
-  abbrev IsOld : Build → Type 0
+  abbrev pub IsOld : Build → Type 0
   IsOld build = named build.name old ≡ true
 
-  each_old : AllByRecursion IsOld old
+  pub each_old : AllByRecursion IsOld old
   each_old = all_numbered (λ (build : Build). build.name) old
 
-  other : (name : ℕ) → named name old ≡ true → (new.name == name) ≡ false
+  pub other : (name : ℕ) → named name old ≡ true → (new.name == name) ≡ false
   other name member =
       not_same new.name name (λ e. false_true (sym adds.fresh ∙ subst (λ (n : ℕ). named n old ≡ true) (sym e) member))
 
@@ -184,7 +88,7 @@ module _ (s : Session) (h later : History) (new : Build) (adds : Adds s h later 
   pub cells_found : (name : ℕ) → named name old ≡ true → cells_in (builds page later) name ≡ cells_in old name
   cells_found name member = ap (λ (o : Option Build). option_map_or (λ (build : Build). build.cells) o []) (found name member)
 
-  status_same : (build : Build) → IsOld build → status_now s later build ≡ status_now s h build
+  pub status_same : (build : Build) → IsOld build → status_now s later build ≡ status_now s h build
   status_same build member =
       let ends = adds.endings build.name (other build.name member) in
       λ i. unwrap_or (ends i)
@@ -195,7 +99,7 @@ module _ (s : Session) (h later : History) (new : Build) (adds : Adds s h later 
   granted_same : (build : Build) → is_granted later build ≡ is_granted h build
   granted_same build = ap (λ (b : Bool). option_map_or grants_at_once build.plan false || b) (adds.grants build.name)
 
-  waiting_same : (build : Build) → IsOld build → is_waiting later build ≡ is_waiting h build
+  pub waiting_same : (build : Build) → IsOld build → is_waiting later build ≡ is_waiting h build
   waiting_same build member =
       let ends = adds.endings build.name (other build.name member) in
       λ i. is_none (ends i) && is_shared build.plan && not (adds.grants build.name i)
@@ -231,7 +135,7 @@ module _ (s : Session) (h later : History) (new : Build) (adds : Adds s h later 
       go true is rest = refl
       go false is rest = ap (λ (n : ℕ). length (spans_of page build) + n) (rest is)
 
-  row_same : (build : Build) → IsOld build → row_of s later build ≡ row_of s h build
+  pub row_same : (build : Build) → IsOld build → row_of s later build ≡ row_of s h build
   row_same build member =
       let first = ap (λ (list : List Build). pieces_before page list build.name) adds.blobs ∙ before_same old build.name member in
       λ i. record {
@@ -368,7 +272,7 @@ module _ (s : Session) (h later : History) (new : Build) (adds : Adds s h later 
     still_held : (slot : ℕ) (item : Item) → item_at shares slot ≡ Some item → item_at now slot ≡ Some item
     still_held slot item at = subst (λ (o : Option Item). IfSome o (λ (each : Item). item_at now slot ≡ Some each)) at (come.kept slot)
 
-    placed_now : (slot : ℕ) → IfSome (item_at now slot) (IsPlaced (pieces page later) (facts_of s later))
+    pub placed_now : (slot : ℕ) → IfSome (item_at now slot) (IsPlaced (pieces page later) (facts_of s later))
     placed_now slot = by (item_at shares slot) refl
       where
         new_placed : (o : Option Item) → IfSome o (IsNew (pieces page later) (facts_of s later) (length all))
@@ -547,7 +451,7 @@ module _ (s : Session) (h later : History) (new : Build) (adds : Adds s h later 
     stands_still cells statuses.Dereferenced entry steps inside sources is = is
     stands_still cells status entry steps inside sources is = tt
 
-    entry_still : (build : Build) (held : Option Entry) → IsOld build × IfSome held SourcesOld → EntryStands old all shares (own_pieces page h) build held
+    pub entry_still : (build : Build) (held : Option Entry) → IsOld build × IfSome held SourcesOld → EntryStands old all shares (own_pieces page h) build held
         → EntryStands (builds page later) (pieces page later) now (own_pieces page later) build held
     entry_still build None ready is = tt
     entry_still build (Some entry) ready is = record {
@@ -570,7 +474,7 @@ module _ (s : Session) (h later : History) (new : Build) (adds : Adds s h later 
         let rest : map (piece_at shares) slots ≡ map (λ (n : ℕ). Some n) numbers = cc is in
         λ i. piece_still slot number first i ∷ slots_still slots numbers rest i
 
-    written_still : (build : Build) (row : Row) → IsOld build → AreWritten shares (own_pieces page h build.name) row.coming
+    pub written_still : (build : Build) (row : Row) → IsOld build → AreWritten shares (own_pieces page h build.name) row.coming
         → AreWritten now (own_pieces page later build.name) row.coming
     written_still build row member is = by row.coming is
       where
@@ -647,7 +551,7 @@ module _ (s : Session) (h later : History) (new : Build) (adds : Adds s h later 
         (filter-each (holds_piece now) (holds_piece shares) job.pieces
         (for_each (λ (n : ℕ). IsSome (piece_in all n)) (λ (n : ℕ). holds_piece now n ≡ holds_piece shares n) job.pieces (λ n is. holds_same n is) there))
 
-    pages_still : (limit : ℕ) (files : Files) → PagesStand all (page_facts_of h) limit shares files
+    pub pages_still : (limit : ℕ) (files : Files) → PagesStand all (page_facts_of h) limit shares files
         → PagesStand (pieces page later) (page_facts_of h) limit now (record files { reserved = weights reserved_weight now })
     pages_still limit files is = record {
       same_limit = is.same_limit;
@@ -766,161 +670,5 @@ module _ (s : Session) (h later : History) (new : Build) (adds : Adds s h later 
           (filter_all (λ (piece : Piece). piece.blob ≡ new.name) holds' extra extra_named)) i)
           ∙ append-nil (kept_of h old (is_held old shares rows) all)
 
-      order_same : order_of s later now (rows ++ Some row ∷ []) ≡ order_of s h shares rows
+      pub order_same : order_of s later now (rows ++ Some row ∷ []) ≡ order_of s h shares rows
       order_same = λ i. filter_map (with_length (pageable_same i)) (adds.uses i)
-
--- ---- everything together
-
-module _ (s : Session) (h : History) (stands : ℕ → Bool) (book : Book) (shares : List (Option Share)) (rows : List (Option Row)) (quota : Queue)
-    (files : Files) (order : List (ℕ × ℕ)) (contents : ContentsStand s h stands book shares rows quota files order) (unmarked : AreUnmarked book.entries)
-    (rest : IsAtRest (page_limit s) h) (listed : AreListed (page_limit s) h) (later : History) (new : Build) (adds : Adds s h later new) where
-  abbrev blobs : List Build
-  blobs = builds (page_limit s) h
-
-  -- a blob of before whose entry takes bytes from blobs of before
-  abbrev IsReady : Build → Option Entry → Type 0
-  IsReady build held = IsOld s h later new adds build × IfSome held (λ (entry : Entry). is_pending entry.status ≡ true
-      → AllByRecursion (λ (name : ℕ). named name blobs ≡ true) (source_names entry.recipe))
-
-  abbrev Fine : Build → Option Entry → Type 0
-  Fine build held = EntryStands blobs (pieces (page_limit s) h) shares (own_pieces (page_limit s) h) build held
-
-  are_ready : (earlier list : List Build) (entries : List (Option Entry)) → AreOrdered earlier list
-      → AllByRecursion (λ (build : Build). is_some build.plan ≡ false → is_unfinished h build.name ≡ false) list
-      → ((name : ℕ) → named name earlier ≡ true → named name blobs ≡ true) → AllByRecursion (λ (build : Build). named build.name blobs ≡ true) list
-      → AreOutlined s h stands list entries → Beside Fine list entries → Beside IsReady list entries
-  are_ready earlier [] [] ordered planned wide here told fine = tt
-  are_ready earlier [] (held ∷ entries) ordered planned wide here told fine = absurd fine
-  are_ready earlier (build ∷ list) [] ordered planned wide here told fine = absurd fine
-  are_ready earlier (build ∷ list) (held ∷ entries) ordered planned wide here told fine = (
-    (
-      here.0,
-      by_first s h stands
-          (λ (one : Option Entry). Fine build one → IfSome one (λ (entry : Entry). is_pending entry.status ≡ true
-          → AllByRecursion (λ (name : ℕ). named name blobs ≡ true) (source_names entry.recipe))) build held
-          (first_of s h stands build list held entries told) (λ off is. tt) one fine.0,
-    ),
-    are_ready (earlier ++ build ∷ []) list entries ordered.2 planned.1 wider here.1 (rest_of s h stands build list held entries told) fine.1,
-  )
-    where
-      wider : (name : ℕ) → named name (earlier ++ build ∷ []) ≡ true → named name blobs ≡ true
-      wider name is =
-          ⊎_elim (wide name)
-          (λ (new_one : ((build.name == name) || false) ≡ true).
-          ⊎_elim (λ (same : (build.name == name) ≡ true). subst (λ (n : ℕ). named n blobs ≡ true) (eqb-true build.name name same) here.0)
-          (λ (no_more : false ≡ true). absurd (false_true no_more)) (or_cases (build.name == name) false new_one))
-          (any_parts (λ (each : Build). each.name == name) earlier (build ∷ []) is)
-
-      has_plan : is_unfinished h build.name ≡ true → is_some build.plan ≡ true
-      has_plan begun = go (is_some build.plan) refl
-        where
-          go : (b : Bool) → is_some build.plan ≡ b → b ≡ true
-          go true at = refl
-          go false at = absurd (false_true (sym (planned.0 at) ∙ begun))
-
-      one : (entry : Entry) → IsTold s h stands (build, entry) → Fine build (Some entry) → is_pending entry.status ≡ true
-          → AllByRecursion (λ (name : ℕ). named name blobs ≡ true) (source_names entry.recipe)
-      one entry tells fine pending =
-          let begun = sym (pending_now s h build (rest.ends build.name)) ∙ ap is_pending (sym (ap (λ (o : Outline). o.status) tells.outline_is)) ∙ pending in
-          subst (λ (list : List ℕ). AllByRecursion (λ (name : ℕ). named name blobs ≡ true) list) (sym (fine.sources pending))
-          (for_each (λ (name : ℕ). has_source build name ≡ true) (λ (name : ℕ). named name blobs ≡ true) (sources build.parts)
-          (λ name has. wide name (ordered.1 name (has_plan begun) has)) (all_members (sources build.parts)))
-
-  ready : Beside IsReady blobs book.entries
-  ready =
-      are_ready [] blobs book.entries rest.ordered rest.planned (λ name is. absurd (false_true is)) (each_old s h later new adds)
-      contents.outlines_stand contents.entries.each
-
-  module _ (entry : Entry) (row : Row) (now : List (Option Share))
-      (come : AreAdded (pieces (page_limit s) later) (facts_of s later) (length (pieces (page_limit s) h)) shares now)
-      (entered : IsEntered s later new now entry row) where
-    -- what stands of the blobs of before and of the new one
-    stood_more : {Y : Type 0} (f g : Build → Y) → ((build : Build) → IsOld s h later new adds build → f build ≡ g build)
-        → map (λ (build : Build). cond ((new.name == build.name) || stands build.name) (Some (f build)) None) (builds (page_limit s) later)
-        ≡ map (λ (build : Build). cond (stands build.name) (Some (g build)) None) blobs ++ Some (f new) ∷ []
-    stood_more {Y} f g same =
-        ap (map (λ (build : Build). cond ((new.name == build.name) || stands build.name) (Some (f build)) None)) adds.blobs
-        ∙ map-more (λ (build : Build). cond ((new.name == build.name) || stands build.name) (Some (f build)) None)
-        (λ (build : Build). cond (stands build.name) (Some (g build)) None) blobs new (Some (f new))
-        (for_each (IsOld s h later new adds)
-        (λ (build : Build). cond {A = Option Y} ((new.name == build.name) || stands build.name) (Some (f build)) None ≡ cond (stands build.name)
-        (Some (g build)) None) blobs
-        (λ build member. λ i. cond {A = Option Y} (other s h later new adds build.name member i || stands build.name) (Some (same build member i)) None)
-        (each_old s h later new adds))
-        (λ i. cond {A = Option Y} (eq-eqb new.name new.name refl i || stands new.name) (Some (f new)) None)
-
-    waits_now : map {B = ℕ × ℕ} (λ (build : Build). (build.name, own_bytes build.parts)) (waits (page_limit s) later)
-        ≡ map {B = ℕ × ℕ} (λ (build : Build). (build.name, own_bytes build.parts)) (waits (page_limit s) h)
-        ++ cond (is_waiting later new) ((new.name, own_bytes new.parts) ∷ []) []
-    waits_now =
-        ap (λ (list : List Build). map {B = ℕ × ℕ} (λ (build : Build). (build.name, own_bytes build.parts)) (filter (is_waiting later) list)) adds.blobs
-        ∙ ap (map {B = ℕ × ℕ} (λ (build : Build). (build.name, own_bytes build.parts))) (filter-append (is_waiting later) blobs (new ∷ []))
-        ∙ map-append {B = ℕ × ℕ} (λ (build : Build). (build.name, own_bytes build.parts)) (filter (is_waiting later) blobs)
-        (filter (is_waiting later) (new ∷ []))
-        ∙ (λ i. map {B = ℕ × ℕ} (λ (build : Build). (build.name, own_bytes build.parts)) (filter-each (is_waiting later) (is_waiting h) blobs all_same i)
-        ++ last (is_waiting later new) i)
-      where
-        all_same : AllByRecursion (λ (build : Build). is_waiting later build ≡ is_waiting h build) blobs
-        all_same =
-            for_each (IsOld s h later new adds) (λ (build : Build). is_waiting later build ≡ is_waiting h build) blobs (waiting_same s h later new adds)
-            (each_old s h later new adds)
-
-        last : (b : Bool) → map {B = ℕ × ℕ} (λ (build : Build). (build.name, own_bytes build.parts)) (cond b (new ∷ []) [])
-            ≡ cond b ((new.name, own_bytes new.parts) ∷ []) []
-        last true = refl
-        last false = refl
-
-    as_many : length rows ≡ length blobs
-    as_many =
-        sym (length-map rows (option_map bare)) ∙ ap (λ (list : List (Option Row)). length list) contents.rows_stand
-        ∙ length-map blobs (λ (build : Build). cond {A = Option Row} (stands build.name) (Some (row_of s h build)) None)
-
-    grown : (used : ℕ)
-        → ContentsStand s later (λ (name : ℕ). (new.name == name) || stands name)
-        (book_of (book.names ++ new.name ∷ []) (book.entries ++ Some entry ∷ [])) now (rows ++ Some row ∷ [])
-        (record quota { used = used; waiting = now_waiting later new quota.waiting }) (record files { reserved = weights reserved_weight now }) order
-    grown used = record {
-      names = ap (λ (list : List ℕ). list ++ new.name ∷ []) contents.names ∙ sym (map-append (λ (build : Build). build.name) blobs (new ∷ []))
-          ∙ ap (map (λ (build : Build). build.name)) (sym adds.blobs);
-      outlines_stand = map-append (option_map outline) book.entries (Some entry ∷ []) ∙ (λ i. contents.outlines_stand i ++ Some (entered.outline_is i) ∷ [])
-          ∙ sym (stood_more (outline_of s later) (outline_of s h)
-          (λ build member. λ i. record {
-            owner = build.builder;
-            size = size build;
-            kind = build.kind;
-            status = status_same s h later new adds build member i;
-          }));
-      marks = subst (λ (list : List Build). Beside (IsMarkedRight s later) list (book.entries ++ Some entry ∷ [])) (sym adds.blobs)
-          (beside_more (IsMarkedRight s later) blobs book.entries new (Some entry)
-          (unmarked_right s h later blobs book.entries contents.marks unmarked)
-          (λ pending. subst (λ (o : Option Status). IfSome o (λ (why : Status). breaks_as s later new ≡ Some why)) (sym entered.unmarked) tt));
-      rows_stand = map-append (option_map bare) rows (Some row ∷ []) ∙ (λ i. contents.rows_stand i ++ Some (entered.row_is i) ∷ [])
-          ∙ sym (stood_more (row_of s later) (row_of s h) (row_same s h later new adds));
-      items = record { each = placed_now s h later new adds listed shares now contents.items.each come; apart = come.apart };
-      entries = record {
-        each = subst
-            (λ (list : List Build). Beside (EntryStands (builds (page_limit s) later) (pieces (page_limit s) later) now (own_pieces (page_limit s) later)) list
-            (book.entries ++ Some entry ∷ [])) (sym adds.blobs)
-            (beside_more (EntryStands (builds (page_limit s) later) (pieces (page_limit s) later) now (own_pieces (page_limit s) later)) blobs book.entries new
-            (Some entry)
-            (beside_both IsReady Fine (EntryStands (builds (page_limit s) later) (pieces (page_limit s) later) now (own_pieces (page_limit s) later)) blobs
-            book.entries (entry_still s h later new adds listed shares now contents.items.each come) ready contents.entries.each) entered.stands);
-        written = subst
-            (λ (list : List Build). RowsBeside (λ (build : Build) (one : Row). AreWritten now (own_pieces (page_limit s) later build.name) one.coming) list
-            (rows ++ Some row ∷ [])) (sym adds.blobs)
-            (rows_each (IsOld s h later new adds) (λ (build : Build) (one : Row). AreWritten shares (own_pieces (page_limit s) h build.name) one.coming)
-            (λ (build : Build) (one : Row). AreWritten now (own_pieces (page_limit s) later build.name) one.coming) blobs rows new row as_many
-            (written_still s h later new adds listed shares now contents.items.each come) (each_old s h later new adds) contents.entries.written entered.slots);
-      };
-      waiting = ap (λ (list : List (ℕ × ℕ)). list ++ cond (is_waiting later new) ((new.name, own_bytes new.parts) ∷ []) []) contents.waiting ∙ sym waits_now;
-      memory_limit = contents.memory_limit;
-      page_files_stand = subst
-          (λ (facts : PageFacts). PagesStand (pieces (page_limit s) later) facts s.limits.disk now (record files { reserved = weights reserved_weight now }))
-          (sym adds.facts) (pages_still s h later new adds listed shares now contents.items.each come s.limits.disk files contents.page_files_stand);
-      recent = λ on. contents.recent (sym (ap (λ (facts : PageFacts). facts.paging) adds.facts) ∙ on)
-          ∙ sym (order_same s h later new adds listed shares now contents.items.each come rows row as_many);
-    }
-
-pub contents_grow : ContentsGrow
-contents_grow s h stands book shares rows quota files order contents unmarked rest listed later new adds entry row now come entered used =
-    grown s h stands book shares rows quota files order contents unmarked rest listed later new adds entry row now come entered used

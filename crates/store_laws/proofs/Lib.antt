@@ -43,7 +43,9 @@ pub mod Finishing
 pub mod TableLines
 pub mod ApartHistories
 pub mod TableRefusals
+pub mod GrownLists
 pub mod Growing
+pub mod ContentsGrow
 pub mod Building
 pub mod Parting
 pub mod Unended
