@@ -1,5 +1,5 @@
 //! The line `cancel`.
-ghost use Rattle.std.specs.Prelude.{[], ◌∷◌, List, Option};
+ghost use Rattle.std.specs.Prelude.{◌≡◌, [], ◌∷◌, List, Option};
 
 use crate::parts::Parts;
 use answer_text::Answer;
@@ -17,6 +17,7 @@ impl Parts {
     pub fn cancel(&mut self, renderer: RendererId, reader: ReaderId) -> Answer
         requires { IsWhole self.old }
         ensures whole { IsWhole self.new }
+        ensures items { self.new.shares ≡ self.old.shares }
         ensures says { (told : Option (List Change)) (table : Table)
             → Says (events.Cancel renderer reader) (result ∷ [])
             (scene self.old told table) (scene self.new told table) }

@@ -108,6 +108,7 @@ impl Parts {
     pub fn die(&mut self, renderer: RendererId) -> Answer
         requires { IsWhole self.old }
         ensures whole { IsWhole self.new }
+        ensures items { self.new.shares ≡ self.old.shares }
         ensures says { (told : Option (List Change)) (table : Table)
             → Says (events.Die renderer) (result ∷ [])
             (scene self.old told table) (scene self.new told table) }

@@ -1,5 +1,5 @@
 //! The line `drop`.
-ghost use Rattle.std.specs.Prelude.{[], ◌∷◌, List, Option};
+ghost use Rattle.std.specs.Prelude.{◌≡◌, [], ◌∷◌, List, Option};
 
 use crate::parts::Parts;
 use answer_text::{Answer, Refusal};
@@ -18,6 +18,7 @@ impl Parts {
     pub fn drop_handle(&mut self, renderer: RendererId, name: BlobName) -> Answer
         requires { IsWhole self.old }
         ensures whole { IsWhole self.new }
+        ensures items { self.new.shares ≡ self.old.shares }
         ensures says { (told : Option (List Change)) (table : Table)
             → Says (events.Drop renderer name) (result ∷ [])
             (scene self.old told table) (scene self.new told table) }

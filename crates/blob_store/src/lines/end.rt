@@ -16,6 +16,7 @@ impl Parts {
     pub fn end(&mut self) -> Answer
         requires { IsWhole self.old }
         ensures whole { IsWhole self.new }
+        ensures items { self.new.shares ≡ self.old.shares }
         ensures says { (told : Option (List Change)) (table : Table)
             → Says events.Finish (result ∷ [])
             (scene self.old told table) (scene self.new told table) }

@@ -25,6 +25,7 @@ impl Parts {
         requires whole { IsWhole self.old }
         requires few { self.old.lines < 2 ^ 63 }
         ensures whole { OnOk result (IsWhole (with_line self.new)) }
+        ensures items { OnOk result (self.new.shares ≡ self.old.shares) }
         ensures says { IfOk result (λ answer. (told : Option (List Change)) (table : Table)
             → Says (events.Fetch renderer reader text.now off len) (answer ∷ [])
             (scene self.old told table) (scene self.new told table)) }

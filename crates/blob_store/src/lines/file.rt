@@ -1,5 +1,5 @@
 //! The line `file`.
-ghost use Rattle.std.specs.Prelude.{◌≡◌, [], ◌∷◌, List, Option, IfOk, OnErr};
+ghost use Rattle.std.specs.Prelude.{OnOk, ◌≡◌, [], ◌∷◌, List, Option, IfOk, OnErr};
 
 use crate::parts::Parts;
 use answer_text::{Answer, Refusal};
@@ -18,6 +18,7 @@ impl Parts {
     pub fn file(&mut self, name: &FileName, stamp: u64, bytes: &Octets) -> Result<Answer, NoMemory>
         requires { IsWhole self.old }
         ensures whole { IsWhole self.new }
+        ensures items { OnOk result (self.new.shares ≡ self.old.shares) }
         ensures says { IfOk result (λ answer. (told : Option (List Change)) (table : Table)
             → Says (events.File name.now stamp bytes.now) (answer ∷ [])
             (scene self.old told table) (scene self.new told table)) }

@@ -1,5 +1,5 @@
 //! The line `lost`.
-ghost use Rattle.std.specs.Prelude.{[], ◌∷◌, List, Option};
+ghost use Rattle.std.specs.Prelude.{◌≡◌, [], ◌∷◌, List, Option};
 
 use crate::parts::Parts;
 use answer_text::{Answer, Refusal};
@@ -17,6 +17,7 @@ impl Parts {
     pub fn lost(&mut self, job: JobNo) -> Answer
         requires { IsWhole self.old }
         ensures whole { IsWhole self.new }
+        ensures items { self.new.shares ≡ self.old.shares }
         ensures says { (told : Option (List Change)) (table : Table)
             → Says (events.Lost job) (result ∷ [])
             (scene self.old told table) (scene self.new told table) }

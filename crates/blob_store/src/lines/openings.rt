@@ -87,6 +87,7 @@ impl Parts {
         ensures opening { IfOk result (λ answer. Opening
             (record { owner = owner; number = number; blob = blob; off = off; len = len })
             answer self.old self.new) }
+        ensures items { OnOk result (self.new.shares ≡ self.old.shares) }
         ensures err { OnErr result (self.new ≡ self.old) }
     {
         let entry = self.entry_rooted(blob);
