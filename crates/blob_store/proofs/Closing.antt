@@ -71,15 +71,15 @@ closing_said reader shares views out (HandleFault slot) closes = (refl, refl)
 
 -- what a step counts is beside what is heard
 pub heard_asked : (s : Session) (h : History) (event : Event) (own : List Answer) (parts : Parts) (told : Option (List Change)) (table : HandleTable)
-    (shares : List (Option Share)) (views : List View) (room : ℕ) (course later : Course) (faults meter : ℕ) (new : Asked) (out : List ℕ) (end : StepEnd)
-    → StepEnds shares views room course later (asked parts.files told table faults meter) new out end → IsHeard s h event own (scene parts told table)
+    (files : List (List ℕ × FileNote)) (shares : List (Option Share)) (views : List View) (room : ℕ) (course later : Course) (faults meter : ℕ) (new : Asked) (out : List ℕ) (end : StepEnd)
+    → StepEnds shares views room course later (asked files told table faults meter) new out end → IsHeard s h event own (scene parts told table)
     → IsHeard s h event own (scene parts told new.from.handles)
-heard_asked s h event own parts told table shares views room course later faults meter new out end ends heard = by end ends
+heard_asked s h event own parts told table files shares views room course later faults meter new out end ends heard = by end ends
   where
     same : new.from.handles ≡ table → IsHeard s h event own (scene parts told new.from.handles)
     same is = subst (λ (one : HandleTable). IsHeard s h event own (scene parts told one)) (sym is) heard
 
-    by : (one : StepEnd) → StepEnds shares views room course later (asked parts.files told table faults meter) new out one
+    by : (one : StepEnd) → StepEnds shares views room course later (asked files told table faults meter) new out one
         → IsHeard s h event own (scene parts told new.from.handles)
     by (Bytes count) is = same is.3.calm.handles
     by End is = same (ap (λ (one : Asked). one.from.handles) is.2)

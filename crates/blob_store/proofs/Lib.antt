@@ -73,3 +73,4 @@ pub mod MayCome
 pub mod Objects
 pub mod Reading
 pub mod Closing
+pub mod HeardReads

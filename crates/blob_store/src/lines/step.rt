@@ -1,5 +1,5 @@
 //! The line `step`.
-ghost use Rattle.std.specs.Prelude.{◌≡◌, [], ◌∷◌, None, IfOk, IsSome, IsSomeAnd, OnErr, OnOk};
+ghost use Rattle.std.specs.Prelude.{◌≡◌, ◌≤◌, [], ◌∷◌, None, IfOk, IsSome, IsSomeAnd, OnErr, OnOk};
 ghost use Rattle.blob_entries.specs.Book.{changed};
 ghost use Rattle.blob_entries.specs.Changes.{held_less};
 ghost use Rattle.data_handles.specs.Boxes.{of_table};
@@ -11,7 +11,7 @@ ghost use Rattle.blob_store.specs.Reading.{IsClosing, IsReading};
 use crate::lines::touching::touch_read;
 use crate::parts::Parts;
 use answer_text::{Answer, Refusal};
-use blob_entries::status::is_pending;
+use blob_entries::status::{is_done, is_pending};
 use blob_items::View;
 use blob_words::{BlobName, NoMemory, Octets, ReaderId, Status};
 use data_handles::{Boxed, DataHandle, HandleTable};
@@ -21,7 +21,8 @@ use range_reader::{Reader, StepEnd};
 use std::alloc::Global;
 
 fn place_of(course: &Reader) -> u64
-    ensures { result ≡ course.now.place }
+    ensures place { result ≡ course.now.place }
+    ensures within { course.now.place ≤ course.now.stop }
 {
     0
 }
@@ -157,7 +158,7 @@ impl Parts {
         if is_pending(status) {
             return Ok(Answer::Wait(reader));
         }
-        if status != Status::Done || left == 0 {
+        if !is_done(status) || left == 0 {
             self.end_reader(reader);
             return Ok(Answer::Ended(reader, status));
         }
