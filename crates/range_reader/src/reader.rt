@@ -71,7 +71,8 @@ impl Reader {
 
     /// The place of the next byte in the blob.
     pub fn place(&self) -> u64
-        ensures { result ≡ self.now.place }
+        ensures place { result ≡ self.now.place }
+        ensures within { self.now.place ≤ self.now.stop }
     {
         self.place
     }

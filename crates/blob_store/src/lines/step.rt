@@ -1,5 +1,5 @@
 //! The line `step`.
-ghost use Rattle.std.specs.Prelude.{◌≡◌, ◌≤◌, [], ◌∷◌, None, IfOk, IsSome, IsSomeAnd, OnErr, OnOk};
+ghost use Rattle.std.specs.Prelude.{◌≡◌, [], ◌∷◌, None, IfOk, IsSome, IsSomeAnd, OnErr, OnOk};
 ghost use Rattle.blob_entries.specs.Book.{changed};
 ghost use Rattle.blob_entries.specs.Changes.{held_less};
 ghost use Rattle.data_handles.specs.Boxes.{of_table};
@@ -17,15 +17,8 @@ use blob_words::{BlobName, NoMemory, Octets, ReaderId, Status};
 use data_handles::{Boxed, DataHandle, HandleTable};
 use item_shares::{Item, Shares};
 use page_disk::PageDisk;
-use range_reader::{Reader, StepEnd};
+use range_reader::StepEnd;
 use std::alloc::Global;
-
-fn place_of(course: &Reader) -> u64
-    ensures place { result ≡ course.now.place }
-    ensures within { course.now.place ≤ course.now.stop }
-{
-    0
-}
 
 // The answer to a step that reads no bytes.
 fn closing_answer(
@@ -152,7 +145,7 @@ impl Parts {
             return Ok(Answer::Refused(Refusal::NoReader(reader)));
         };
         let blob = open.blob;
-        let place = place_of(&open.course);
+        let place = open.course.place();
         let left = open.course.left();
         let status = self.registry.status_of(blob).unwrap();
         if is_pending(status) {
