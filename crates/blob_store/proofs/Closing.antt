@@ -1,6 +1,6 @@
 -- A step that reads no bytes leaves the readers as they were, and its answer closes its reader.
-use Rattle.std.proofs.Common.{◌≡◌, ℕ, ◌-◌, true, false, List, [], min, Option, Some, None, refl, sym, ap, subst, ◌∙◌}
-use Rattle.std.specs.Prelude.{option_and_then, slice_get, IsSomeAnd}
+use Rattle.std.proofs.Common.{◌≡◌, ℕ, ◌-◌, true, false, List, [], min, Option, Some, None, refl, sym, ap, subst}
+use Rattle.std.specs.Prelude.{option_and_then, IsSomeAnd}
 use Rattle.std.specs.Option.{option_map_or}
 use Rattle.blob_words.specs.declared.number.ReaderId.{ReaderId}
 use Rattle.session_script.specs.declared.event.Event.{Event}
@@ -71,7 +71,8 @@ closing_said reader shares views out (HandleFault slot) closes = (refl, refl)
 
 -- what a step counts is beside what is heard
 pub heard_asked : (s : Session) (h : History) (event : Event) (own : List Answer) (parts : Parts) (told : Option (List Change)) (table : HandleTable)
-    (files : List (List ℕ × FileNote)) (shares : List (Option Share)) (views : List View) (room : ℕ) (course later : Course) (faults meter : ℕ) (new : Asked) (out : List ℕ) (end : StepEnd)
+    (files : List (List ℕ × FileNote)) (shares : List (Option Share)) (views : List View) (room : ℕ)
+    (course later : Course) (faults meter : ℕ) (new : Asked) (out : List ℕ) (end : StepEnd)
     → StepEnds shares views room course later (asked files told table faults meter) new out end → IsHeard s h event own (scene parts told table)
     → IsHeard s h event own (scene parts told new.from.handles)
 heard_asked s h event own parts told table files shares views room course later faults meter new out end ends heard = by end ends

@@ -1,5 +1,5 @@
 -- A step of an open reader is heard, whether it waits, reads bytes or closes the reader.
-use Rattle.std.proofs.Common.{◌≡◌, ℕ, ◌+◌, ◌-◌, ◌<◌, ◌≤◌, ◌⊎◌, Bool, true, false, List, [], ◌∷◌, ◌++◌, drop, length, min, take, Option, Some, None, Bor, refl, sym, ap, subst, ◌∙◌, inl, inr, arith, length-drop}
+use Rattle.std.proofs.Common.{◌≡◌, ℕ, ◌+◌, ◌-◌, ◌≤◌, ◌⊎◌, Bool, true, false, List, [], ◌∷◌, ◌++◌, drop, length, min, take, Option, Some, None, Bor, refl, sym, ap, subst, ◌∙◌, inl, inr, arith, length-drop}
 use Rattle.std.specs.Prelude.{if◌then◌else◌, option_and_then, IsSome, IsSomeAnd}
 use Rattle.std.specs.Option.{option_copied, option_map}
 use Rattle.std.specs.List.{AllByRecursion}
@@ -14,7 +14,6 @@ use Rattle.answer_text.specs.declared.answer.Answer.TheVariants as answers
 use Rattle.answer_text.specs.declared.group.Group.{Group}
 use Rattle.data_handles.specs.Table.{Table as HandleTable}
 use Rattle.page_disk.specs.declared.change.Change.{Change}
-use Rattle.item_shares.specs.declared.shares.Share.{Share}
 use Rattle.blob_items.specs.Cells.{cells, total}
 use Rattle.blob_items.specs.declared.view.View.{View}
 use Rattle.blob_items.proofs.CellLemmas.{length_cells}
@@ -282,7 +281,8 @@ module _ (parts : Parts) (told : Option (List Change)) (table : HandleTable) (wh
           (subst (λ (held : Option OpenReader). IsSome held) (sym reading.there) refl)
 
       pub closing_heard : (s : Session) (groups : List Group) → IsLegalFrom s start groups → Stands s (history_from start groups) (parts_of parts) told table
-          → (now : Option (List Change)) → now ≡ told → (answer : Answer) (final : Parts) → answer ≡ step_answer reader parts.shares views [] end → Closes reader.0 later final.readers
+          → (now : Option (List Change)) → now ≡ told
+          → (answer : Answer) (final : Parts) → answer ≡ step_answer reader parts.shares views [] end → Closes reader.0 later final.readers
           → IsSomeAnd (reader_at reader.0 later) (λ (one : OpenReader). final
           ≡ record parts { registry = changed parts.registry one.blob held_less; readers = final.readers })
           → IsHeard s (history_from start groups) (events.Step reader) (answer ∷ []) (scene final now new.from.handles)

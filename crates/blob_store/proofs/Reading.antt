@@ -1,30 +1,28 @@
 -- A blob that is done can be read, and a read leaves the parts whole.
-use Rattle.std.proofs.Common.{◌≡◌, ℕ, ◌+◌, ◌<◌, ◌≤◌, ◌==◌, ◌||◌, Bool, true, false, List, [], ◌∷◌, ◌++◌, drop, filter, length, min, take, Option, Some, None, refl, sym, ap, subst, ◌∙◌, arith}
+use Rattle.std.proofs.Common.{◌≡◌, ℕ, ◌+◌, ◌≤◌, ◌==◌, ◌||◌, Bool, true, false, List, [], ◌∷◌, ◌++◌, filter, Option, Some, None, refl, sym, ap, subst, ◌∙◌, arith}
 use Rattle.std.specs.Prelude.{nat_eq, not, option_and_then, slice_get, if◌then◌else◌, IfSome, IsSomeAnd, MatchOption}
-use Rattle.std.specs.Option.{option_map, option_map_or}
-use Rattle.std.specs.List.{AllByRecursion, list_any}
+use Rattle.std.specs.Option.{option_map}
+use Rattle.std.specs.List.{AllByRecursion}
 use Rattle.std.proofs.lemmas.Bool.{eqb-true, or_parts}
 use Rattle.page_disk.specs.declared.change.Change.{Change}
 use Rattle.data_handles.specs.Table.{Table as HandleTable}
 use Rattle.item_shares.specs.Shares.{item_at}
 use Rattle.item_shares.specs.declared.item.Item.{Item}
 use Rattle.item_shares.specs.declared.item.Item.TheVariants.{Memory, Paged, Reserved, File, Range}
-use Rattle.item_shares.specs.declared.shares.Share.{Share}
 use Rattle.blob_items.specs.Cells.{total, IsPlaceOf}
 use Rattle.blob_items.specs.declared.view.View.{View}
-use Rattle.blob_entries.specs.Book.{Book, entry_at, entry_of}
+use Rattle.blob_entries.specs.Book.{entry_at, entry_of}
 use Rattle.blob_entries.specs.Holdings.{fixed_views, own_views}
 use Rattle.blob_entries.specs.Names.{number_of}
-use Rattle.blob_entries.specs.Statuses.{is_broken, is_pending}
+use Rattle.blob_entries.specs.Statuses.{is_broken}
 use Rattle.blob_entries.specs.declared.entry.Entry.{Entry}
 use Rattle.range_reader.specs.Bytes.{origins}
 use Rattle.range_reader.specs.Places.{Course, Lies, ViewLies}
 use Rattle.recent_items.specs.Recent.{is_there, touched, without}
-use Rattle.renderer_table.specs.Table.{Table}
 use Rattle.blob_model.proofs.Lists.{all_append, append_second, filter_all}
 use Rattle.store_laws.specs.Items.{item_length}
 use Rattle.store_laws.specs.StepLaws.{touched_all}
-use Rattle.blob_store.specs.Blobs.{AreUnused, Awaits, IsAwaited, IsInside, IsThere, Views}
+use Rattle.blob_store.specs.Blobs.{AreUnused, IsAwaited, IsInside, IsThere, Views}
 use Rattle.blob_store.specs.Holders.{IsOpen, IsRead}
 use Rattle.blob_store.specs.Readers.{reader_at}
 use Rattle.blob_store.specs.Stored.{IsHeld, IsInMemory}
@@ -142,7 +140,8 @@ module _ (parts : Parts) (whole : Whole parts) (number : ℕ) (reader : OpenRead
           → IfSome (if b then option_map (with_course course) held else held) (IsOpen parts.registry)
       by true same None at is = tt
       by true same (Some one) at is =
-          let here : reader_at other parts.readers ≡ Some reader = subst (λ (n : ℕ). reader_at n parts.readers ≡ Some reader) (eqb-true number other same) there in
+          let here : reader_at other parts.readers ≡ Some reader =
+          subst (λ (n : ℕ). reader_at n parts.readers ≡ Some reader) (eqb-true number other same) there in
           let equal : one ≡ reader = some_same (sym at ∙ here) in
           sized (entry_of parts.registry one.blob) (size ∙ ap (λ (r : OpenReader). r.course.size) (sym equal)) is
         where

@@ -1,7 +1,7 @@
 -- The cells from a place on are those of the views from its view on.
-use Rattle.std.proofs.Common.{◌≡◌, ◌+◌, ◌≤◌, arith, drop, sym, ap, take, ◌∙◌}
-use Rattle.std.specs.Prelude.{List, Option, ℕ, Some}
-use Rattle.blob_items.specs.Cells.{cells, total, IsPlaceOf}
+use Rattle.std.proofs.Common.{◌+◌, ◌≤◌, arith, drop, sym, ap, take, ◌∙◌}
+use Rattle.std.specs.Prelude.{List, ℕ}
+use Rattle.blob_items.specs.Cells.{cells, total}
 use Rattle.blob_items.specs.declared.view.View.{View}
 use Rattle.blob_items.proofs.CutLemmas.{cells_behind, first_within, room_left}
 use Rattle.store_laws.specs.StepLaws.{read_numbers, touched_all}

@@ -79,9 +79,11 @@ returns g c =
       same = c.step-end.ensures.same;
       says = λ s groups legal still stands.
           closing_heard c.args.self.now _ _ c.requires.whole c.requires.readable c.args.reader c.args.blob c.args.place c.args.room c.requires.reading
-          c.unwrap-views.result.now same _ _ _ _ _ _ _ sized c.step-end.ensures.stepped c.in_default-end.not-Bytes s groups legal stands _ c.step-end.ensures.same
+          c.unwrap-views.result.now same _ _ _ _ _ _ _ sized c.step-end.ensures.stepped c.in_default-end.not-Bytes
+          s groups legal stands _ c.step-end.ensures.same
           c.in_ok-answer.answer c.end_reader.new.self
           (c.in_ok-answer.ensures
-          ∙ ap (λ (views : List View). step_answer c.args.reader c.args.self.now.shares views [] c.step-end.result) c.as_slice.ensures) c.end_reader.ensures.closed c.end_reader.ensures.rest;
+          ∙ ap (λ (views : List View). step_answer c.args.reader c.args.self.now.shares views [] c.step-end.result) c.as_slice.ensures)
+          c.end_reader.ensures.closed c.end_reader.ensures.rest;
       err = tt;
     }
