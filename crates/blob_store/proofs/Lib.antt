@@ -71,3 +71,6 @@ pub mod HeardBuilds
 pub mod HeardSlices
 pub mod MayCome
 pub mod Objects
+pub mod Reading
+pub mod Closing
+pub mod HeardReads

@@ -9,6 +9,7 @@ use Rattle.std.specs.Map.{keys_of, set_value, values_of}
 use Rattle.std.proofs.lemmas.Bool.{eq-eqb, eqb-true}
 use Rattle.std.proofs.lemmas.Map.{length-set_value}
 use Rattle.std.proofs.lemmas.Map.Entries.{sum_by-set_value}
+use Rattle.std.proofs.lemmas.Map.Steps.{set_value_same}
 use Rattle.item_shares.specs.declared.shares.Share.{Share}
 use Rattle.blob_items.specs.declared.view.View.{View}
 use Rattle.range_reader.specs.Ends.{StepEnds}
@@ -117,4 +118,11 @@ pub stepped : (number : ℕ) (course : Course) (reader : OpenReader) (shares : L
 stepped number course reader shares views room old new out end seen before later same there is ends =
     subst (λ (list : Open). IsSomeAnd (reader_at number list) (λ (one : OpenReader). IsStepped number one shares views room old new out end list later)) same
     (subst (λ (found : Option OpenReader). IsSomeAnd found (λ (one : OpenReader). IsStepped number one shares views room old new out end before later))
-    (sym there) (record { course = course; ends = ends; moves = moves number course reader before later there is }))
+    (sym there) (record {
+      course = course;
+      ends = ends;
+      moves = moves number course reader before later there is;
+      stays = λ same.
+          is ∙ ap (λ (one : Course). moved number (with_course one reader) before) same
+          ∙ set_value_same (is_at (nat_cmp number)) before reader there;
+    }))

@@ -1,5 +1,6 @@
 pub mod Owners
 pub mod Readers
+pub mod Reading
 pub mod Rows
 pub mod Roots
 pub mod Stored

@@ -47,3 +47,4 @@ pub record IsStepped (number : ℕ) (reader : OpenReader) (shares : List (Option
   pub course : Course
   pub ends : StepEnds shares views room reader.course course old new out end
   pub moves : Moves number course before later
+  pub stays : course ≡ reader.course → later ≡ before

@@ -18,5 +18,6 @@ mod revoke;
 mod slice;
 mod spawn;
 mod stat;
+mod step;
 mod touching;
 mod url;

@@ -69,6 +69,14 @@ impl Reader {
         })
     }
 
+    /// The place of the next byte in the blob.
+    pub fn place(&self) -> u64
+        ensures place { result ≡ self.now.place }
+        ensures within { self.now.place ≤ self.now.stop }
+    {
+        self.place
+    }
+
     /// How many bytes of the range were not read yet.
     pub fn left(&self) -> u64
         ensures { result ≡ self.now.stop - self.now.place }

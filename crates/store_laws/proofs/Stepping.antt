@@ -163,7 +163,7 @@ get_drop zero xs = refl
 get_drop (suc n) [] = refl
 get_drop (suc n) (x ∷ xs) = get_drop n xs
 
-stop_view : (views : List View) (off m view skipped : ℕ) (front rest : List (ℕ × ℕ)) (cell : ℕ × ℕ)
+pub stop_view : (views : List View) (off m view skipped : ℕ) (front rest : List (ℕ × ℕ)) (cell : ℕ × ℕ)
     → take m (drop off (cells views)) ≡ front ++ cell ∷ rest → IsPlaceOf views (off + length front) (view, skipped)
     → (one : View) × (slice_get views view ≡ Some one) × (cell.0 ≡ one.slot)
 stop_view views off m view skipped front rest cell parts place =

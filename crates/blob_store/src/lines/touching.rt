@@ -5,7 +5,7 @@ ghost use Rattle.blob_items.specs.Cells.{cells, total};
 ghost use Rattle.item_shares.specs.Shares.{item_at};
 ghost use Rattle.store_laws.specs.StepLaws.{memory_number, read_numbers, touched_all};
 
-use blob_items::View;
+use blob_items::{View, ViewList};
 use item_shares::{Item, Shares};
 use recent_items::Recent;
 
@@ -19,9 +19,9 @@ fn touch_slot(recent: &mut Recent, shares: &Shares, slot: usize)
     }
 }
 
-/// Each piece in memory that has some of these bytes of views is the last one used, in the order of
-/// the bytes: so many, from a byte of the view at `first` on.
-pub(crate) fn touch_views(
+// Each piece in memory that has some of these bytes of views is the last one used, in the order of
+// the bytes: so many, from a byte of the view at `first` on.
+fn touch_views(
     recent: &mut Recent,
     shares: &Shares,
     views: &[View],
@@ -44,4 +44,21 @@ pub(crate) fn touch_views(
         place += 1;
         skip = 0;
     }
+}
+
+/// Each piece in memory that has some of the bytes from a place on, so many, is the last one used.
+pub(crate) fn touch_read(
+    recent: &mut Recent,
+    shares: &Shares,
+    views: &ViewList,
+    place: u64,
+    count: u64,
+)
+    requires some { 0 < count }
+    requires room { place + count ≤ total views.now }
+    ensures { recent.new ≡ touched_all recent.old (read_numbers shares.now
+        (take count (drop place (cells views.now)))) }
+{
+    let (first, skipped) = views.find(place).unwrap();
+    touch_views(recent, shares, views.as_slice(), first, skipped, count);
 }
