@@ -93,3 +93,5 @@ pub mod RangesHeld
 pub mod LineStands
 pub mod BuildLines
 pub mod SliceLines
+pub mod PairedSums
+pub mod Rooted
