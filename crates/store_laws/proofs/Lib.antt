@@ -95,3 +95,4 @@ pub mod BuildLines
 pub mod SliceLines
 pub mod PairedSums
 pub mod Rooted
+pub mod BehindLines

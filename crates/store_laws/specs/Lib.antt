@@ -25,6 +25,7 @@ pub mod DropLaws
 pub mod Roots
 pub mod Apart
 pub mod Rooted
+pub mod BehindLaws
 pub mod TableLaws
 pub mod OpeningLaws
 pub mod BuildLaws

@@ -1,5 +1,6 @@
 //! Lines that change renderers, URLs, files and readers, and the roots of blobs.
 ghost use Rattle.store_laws.specs.Apart.{KeysDiffer};
+ghost use Rattle.store_laws.specs.BehindLaws.{LinesCanDrop};
 ghost use Rattle.store_laws.specs.OpeningLaws.{OpeningsStand};
 ghost use Rattle.store_laws.specs.Rooted.{RootsAgree};
 ghost use Rattle.store_laws.specs.TableLaws.{TableLinesStand};
@@ -31,4 +32,10 @@ pub fn url_forms_agree()
 /// has one exactly where its blob is rooted in the history.
 pub fn roots_agree()
     ensures { RootsAgree }
+{}
+
+/// So right behind a line's own answers the entries agree with the history, and what nobody holds
+/// can be dropped.
+pub fn lines_can_drop()
+    ensures { LinesCanDrop }
 {}
