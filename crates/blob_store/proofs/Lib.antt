@@ -71,3 +71,4 @@ pub mod HeardBuilds
 pub mod HeardSlices
 pub mod MayCome
 pub mod Objects
+pub mod Droppable
