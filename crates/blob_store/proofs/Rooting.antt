@@ -1,12 +1,12 @@
 -- Who has a handle on a blob has it stand, and what a change of handles makes of their number.
-use Rattle.std.proofs.Common.{◌≡◌, ℕ, ◌+◌, ◌<◌, ◌≤◌, Bool, true, List, [], Option, Some, None, cond, refl, ap, ◌∙◌, arith}
-use Rattle.std.specs.Prelude.{is_some, sum_by, unwrap_or, IsSomeAnd}
-use Rattle.std.specs.Option.{option_map, option_map_or}
+use Rattle.std.proofs.Common.{◌≡◌, ℕ, ◌+◌, ◌<◌, Bool, true, List, [], Option, Some, None, cond, refl, ap, ◌∙◌, arith}
+use Rattle.std.specs.Prelude.{is_some, sum_by, IsSomeAnd}
+use Rattle.std.specs.Option.{option_map_or}
 use Rattle.std.specs.Ordering.{nat_cmp}
 use Rattle.std.specs.BTreeMap.{is_at}
 use Rattle.std.specs.Map.{lookup, set_value, values_of}
 use Rattle.std.proofs.lemmas.Bool.{eq-eqb}
-use Rattle.std.proofs.lemmas.Map.Entries.{sum_by-remove_entry, sum_by-set_value}
+use Rattle.std.proofs.lemmas.Map.Entries.{sum_by-set_value}
 use Rattle.blob_entries.specs.Book.{Book, entry_of}
 use Rattle.blob_entries.specs.declared.entry.Entry.{Entry}
 use Rattle.renderer_table.proofs.Counting.{lookup_written}
