@@ -18,6 +18,7 @@ use Rattle.blob_store.specs.Adding.{arrival_of, CanAdd}
 use Rattle.store_laws.specs.Arrivals.{own_by, status_by}
 use Rattle.blob_store.specs.Entering.{arrival_by, AreAtHand}
 use Rattle.store_laws.specs.Arrivals.{lengths_by}
+use Rattle.store_laws.proofs.Rooted.{within_handles}
 use Rattle.blob_store.specs.Laying.{first_piece, Lays}
 use Rattle.blob_store.specs.Roots.{roots_at}
 use Rattle.blob_store.specs.Seen.{parts_of}
@@ -26,7 +27,6 @@ use Rattle.blob_store.specs.declared.building.entering.Arrival.{Arrival}
 use Rattle.blob_store.specs.declared.building.laying.Laid.{Laid}
 use Rattle.blob_store.specs.declared.parts.Parts.{Parts}
 use Rattle.blob_store.proofs.Arrivals.{new_waits_not, own_made, recipe_fits, recipe_long}
-use Rattle.blob_store.proofs.Rooting.{within_handles}
 
 -- nobody has a handle on a blob whose name is new
 pub few_handles : (renderer name : ℕ) (parts : Parts) → Whole parts → number_of name parts.registry.names ≡ None

@@ -24,6 +24,7 @@ use Rattle.blob_model.specs.Readers.{OpenReader as ReaderSaid}
 use Rattle.store_laws.specs.TableLaws.{open_at, ReaderGoesFrom, ReadersGo, ReadersLeave, UrlsGo, UrlsLeave}
 use Rattle.store_laws.proofs.Rerooted.{changed_rerooted}
 use Rattle.store_laws.proofs.Tables.{equal_bytes, same_bytes}
+use Rattle.store_laws.proofs.Rooted.{on_held, within_handles}
 use Rattle.blob_store.specs.declared.parts.Parts.{Parts}
 use Rattle.blob_store.specs.declared.readers.OpenReader.{OpenReader}
 use Rattle.blob_store.specs.Readers.{is_own, reader_at, ClosesFrom}
@@ -35,7 +36,7 @@ use Rattle.blob_store.proofs.HeardTables.{goes_seen, open_said, open_seen}
 use Rattle.blob_store.proofs.Owning.{owned_dead, owned_same}
 use Rattle.blob_store.proofs.Rerooted.{whole_same}
 use Rattle.blob_store.proofs.Rerooting.{born_still, reader_roots, roots_fewer, stands_rooted, url_roots, whole_closed, whole_unnamed}
-use Rattle.blob_store.proofs.Rooting.{counts_now, handles_moved, living_now, on_held, within_handles}
+use Rattle.blob_store.proofs.Rooting.{counts_now, handles_moved, living_now}
 
 abbrev Urls : Type 0
 Urls = List (List ℕ × Url)

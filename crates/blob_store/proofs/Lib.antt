@@ -74,3 +74,4 @@ pub mod Objects
 pub mod Reading
 pub mod Closing
 pub mod HeardReads
+pub mod Droppable

@@ -29,6 +29,7 @@ use Rattle.url_store.specs.Changes.{Comes, Goes}
 use Rattle.url_store.specs.Urls.{url_at, with_url, without}
 use Rattle.url_store.specs.declared.url.Url.{Url}
 use Rattle.store_laws.specs.LineLaws.{handle_refusal}
+use Rattle.store_laws.proofs.Rooted.{within_handles}
 use Rattle.blob_store.specs.declared.parts.Parts.{Parts}
 use Rattle.blob_store.specs.declared.readers.OpenReader.{OpenReader}
 use Rattle.blob_store.specs.Readers.{reader_at, Closes}
@@ -39,7 +40,7 @@ use Rattle.blob_store.proofs.Changed.{entry_changed}
 use Rattle.blob_store.proofs.HeldBy.{has_handle}
 use Rattle.blob_store.proofs.Holding.{more_reroots, open_still, whole_rerooted, Reroots}
 use Rattle.blob_store.proofs.Owning.{handle_owner, owned_closed, owned_made, owned_same, owned_unmade}
-use Rattle.blob_store.proofs.Rooting.{handles_moved, within_handles}
+use Rattle.blob_store.proofs.Rooting.{handles_moved}
 
 abbrev Urls : Type 0
 Urls = List (List ℕ × Url)

@@ -1,12 +1,12 @@
 -- Who has a handle on a blob has it stand, and what a change of handles makes of their number.
-use Rattle.std.proofs.Common.{◌≡◌, ℕ, ◌+◌, ◌<◌, ◌≤◌, Bool, true, List, [], Option, Some, None, cond, refl, ap, ◌∙◌, arith}
-use Rattle.std.specs.Prelude.{is_some, sum_by, unwrap_or, IsSomeAnd}
-use Rattle.std.specs.Option.{option_map, option_map_or}
+use Rattle.std.proofs.Common.{◌≡◌, ℕ, ◌+◌, ◌<◌, Bool, true, List, [], Option, Some, None, cond, refl, ap, ◌∙◌, arith}
+use Rattle.std.specs.Prelude.{is_some, sum_by, IsSomeAnd}
+use Rattle.std.specs.Option.{option_map_or}
 use Rattle.std.specs.Ordering.{nat_cmp}
 use Rattle.std.specs.BTreeMap.{is_at}
 use Rattle.std.specs.Map.{lookup, set_value, values_of}
 use Rattle.std.proofs.lemmas.Bool.{eq-eqb}
-use Rattle.std.proofs.lemmas.Map.Entries.{sum_by-remove_entry, sum_by-set_value}
+use Rattle.std.proofs.lemmas.Map.Entries.{sum_by-set_value}
 use Rattle.blob_entries.specs.Book.{Book, entry_of}
 use Rattle.blob_entries.specs.declared.entry.Entry.{Entry}
 use Rattle.renderer_table.proofs.Counting.{lookup_written}
@@ -14,18 +14,9 @@ use Rattle.renderer_table.specs.Counts.{count_on}
 use Rattle.renderer_table.specs.Table.{Table, count_of, counts_of, living_of, with_counts}
 use Rattle.renderer_table.specs.declared.living.Living.{Living}
 use Rattle.url_store.specs.declared.url.Url.{Url}
+use Rattle.store_laws.proofs.Rooted.{within_handles}
 use Rattle.blob_store.specs.declared.readers.OpenReader.{OpenReader}
 use Rattle.blob_store.specs.Roots.{handles_of, roots_at, roots_in}
-
-pub on_held : (name : ℕ) (held : Option Living)
-    → count_on name (option_map_or (λ (one : Living). one.counts) held []) ≡ unwrap_or (option_map (λ (one : Living). count_on name one.counts) held) 0
-on_held name None = refl
-on_held name (Some one) = refl
-
-pub within_handles : (id name : ℕ) (table : Table) → count_of id name table ≤ handles_of name table
-within_handles id name table =
-    let sums = sum_by-remove_entry (λ (one : Living). count_on name one.counts) (is_at (nat_cmp id)) table.living in
-    omega (arith, sums, on_held name (living_of id table))
 
 -- a blob on which somebody has a handle stands, and has a root
 pub rooted : (book : Book) (table : Table) (urls : List (List ℕ × Url)) (readers : List (ℕ × OpenReader)) (id name : ℕ)

@@ -1,6 +1,8 @@
 -- What becomes of the parts when blobs that nobody holds go: list 1 of settling, and list 3. Own.
-use Rattle.std.specs.Prelude.{ℕ, ◌≡◌, ◌<◌, ◌++◌, Bool, true, List, Option, fold, sum_by, IsSome}
+use Rattle.std.specs.Prelude.{ℕ, ◌≡◌, ◌<◌, ◌++◌, Bool, false, true, List, Option, fold, sum_by, IsSome}
 use Rattle.answer_text.specs.declared.answer.Answer.{Answer}
+use Rattle.answer_text.specs.declared.group.Group.{Group}
+use Rattle.session_script.specs.declared.event.Event.{Event}
 use Rattle.data_handles.specs.Table.{Table, is_claimed_at, object_at}
 use Rattle.item_shares.specs.Shares.{item_at}
 use Rattle.item_shares.specs.declared.item.Item.{Item}
@@ -10,16 +12,18 @@ use Rattle.blob_entries.specs.Counts.{count_at}
 use Rattle.blob_registry.specs.Sweeps.{dropped, swept}
 use Rattle.quota_queue.specs.Queue.{without}
 use Rattle.blob_model.specs.Builds.{builds}
-use Rattle.blob_model.specs.History.{History}
+use Rattle.blob_model.specs.History.{History, after, has_ended, history_from, start}
+use Rattle.blob_model.specs.Legal.{IsLegalFrom}
 use Rattle.blob_model.specs.Live.{is_live}
 use Rattle.blob_model.specs.Order.{Distinct}
+use Rattle.blob_model.specs.Own.{IsOwn}
 use Rattle.blob_model.specs.Session.{Session, page_limit}
 use Rattle.blob_model.specs.Settle.{drops}
 use Rattle.registry_laws.specs.Agree.{AgreesWith}
 use Rattle.store_laws.specs.Items.{holds_slot}
 use Rattle.store_laws.specs.LetGo.{left_by, let_go_by, AreFreed}
 use Rattle.store_laws.specs.Settling.{after_drops}
-use Rattle.store_laws.specs.Stands.{AreExact, Between}
+use Rattle.store_laws.specs.Stands.{AreExact, Between, stood}
 use Rattle.store_laws.specs.Weights.{range_weight}
 use Rattle.blob_store.specs.declared.parts.Parts.{Parts}
 use Rattle.blob_store.specs.Dropping.{settled_by}
@@ -68,3 +72,11 @@ unfoldable pub Drops : List Answer → List Answer → Scene → Scene → Type 
 Drops before later old new =
     (s : Session) (h : History) (stands : ℕ → Bool) → Between s h stands (parts_of old.parts) old.told old.table → Distinct (builds (page_limit s) h)
     → AgreesWith (page_limit s) h old.parts.registry → ((name : ℕ) → is_live (page_limit s) h name ≡ true → stands name ≡ true) → AreUnheld s h before later new
+
+-- and so behind the own answers of each line of a legal transcript that has not ended, once the line is counted and the parts stand
+unfoldable pub DropsBehind : List Answer → List Answer → Scene → Scene → Type 0
+DropsBehind before later old new =
+    (s : Session) (groups : List Group) (event : Event) (own : List Answer) → IsLegalFrom s start groups → has_ended (history_from start groups) ≡ false
+    → IsOwn s (history_from start groups) event own
+    → Between s (after (history_from start groups) event own) (stood (page_limit s) (history_from start groups) event own) (parts_of old.parts) old.told
+    old.table → AreUnheld s (after (history_from start groups) event own) before later new

@@ -95,3 +95,6 @@ pub mod RangesHeld
 pub mod LineStands
 pub mod BuildLines
 pub mod SliceLines
+pub mod PairedSums
+pub mod Rooted
+pub mod BehindLines

@@ -103,12 +103,12 @@ module _ (s : Session) (h : History) (event : Event) (renderer : RendererId) (bu
       (λ (old : is_live (page_limit s) h name ≡ true). or_second (is_built_by event own name) (is_live (page_limit s) h name) old)
       (live_or (page_limit s) h g x adds (λ (build : Build). build.name == name) there)
 
-told_build : (s : Session) (h : History) (renderer : RendererId) (built : ℕ) (kind : List ℕ) (parts : List Part) (status : Option Status) (name : ℕ)
+pub told_build : (s : Session) (h : History) (renderer : RendererId) (built : ℕ) (kind : List ℕ) (parts : List Part) (status : Option Status) (name : ℕ)
     → is_built_by (events.Build renderer built kind parts) (build_answer_by s h built parts status ∷ []) name ≡ (built == name)
 told_build s h renderer built kind parts None name = refl
 told_build s h renderer built kind parts (Some status) name = refl
 
-told_slice : (s : Session) (h : History) (renderer : RendererId) (built source : ℕ) (from to : Option ℤ) (kind : List ℕ) (parts : List Part)
+pub told_slice : (s : Session) (h : History) (renderer : RendererId) (built source : ℕ) (from to : Option ℤ) (kind : List ℕ) (parts : List Part)
     (status : Option Status) (name : ℕ)
     → is_built_by (events.Slice renderer built source from to kind) (build_answer_by s h built parts status ∷ []) name ≡ (built == name)
 told_slice s h renderer built source from to kind parts None name = refl

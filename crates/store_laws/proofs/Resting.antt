@@ -30,7 +30,7 @@ use Rattle.blob_model.proofs.texts.Ranges.{IsEnd, ends_well}
 use Rattle.store_laws.specs.ReachLaws.{IsAtRest}
 
 -- no blob ended with a status of one to end
-ends_apart : (found : Option Status) → IfSome found IsEnd → IfSome found (λ (status : Status). is_pending status ≡ false)
+pub ends_apart : (found : Option Status) → IfSome found IsEnd → IfSome found (λ (status : Status). is_pending status ≡ false)
 ends_apart None end = tt
 ends_apart (Some status) end =
     ⊎_elim (λ (done : status ≡ statuses.Done). ap is_pending done)

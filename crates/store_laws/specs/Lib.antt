@@ -24,6 +24,8 @@ pub mod Swept
 pub mod DropLaws
 pub mod Roots
 pub mod Apart
+pub mod Rooted
+pub mod BehindLaws
 pub mod TableLaws
 pub mod OpeningLaws
 pub mod BuildLaws

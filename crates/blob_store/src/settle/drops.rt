@@ -29,7 +29,7 @@ pub fn tell_dropped(answers: &mut Answers, dropped: &[BlobName]) -> Result<(), N
 impl Parts {
     ghost use Rattle.blob_store.specs.Gone.{AreGone};
     ghost use Rattle.blob_store.specs.Says.{scene};
-    ghost use Rattle.blob_store.specs.Unheld.{Drops, EntriesGo, HaveObjects};
+    ghost use Rattle.blob_store.specs.Unheld.{Drops, DropsBehind, EntriesGo, HaveObjects};
     ghost use Rattle.blob_store.specs.Whole.{IsCharged, IsWhole};
 
     /// The entries that don't live go, and the items that nothing views any more. After want of
@@ -96,9 +96,14 @@ impl Parts {
         ensures drops { OnOk result ((told : Option (List Change)) → Drops answers.old answers.new
             (scene self.old told (of_table ⟦<Boxed as DataHandle>⟧.seen handles.old))
             (scene self.new told (of_table ⟦<Boxed as DataHandle>⟧.seen handles.new))) }
+        ensures behind { OnOk result ((told : Option (List Change))
+            → DropsBehind answers.old answers.new
+            (scene self.old told (of_table ⟦<Boxed as DataHandle>⟧.seen handles.old))
+            (scene self.new told (of_table ⟦<Boxed as DataHandle>⟧.seen handles.new))) }
         ensures agrees { (changes : List Change) → Agrees self.old.pages.pages changes
             → Agrees self.new.pages.pages changes }
     {
+        let _first = self.renderers.first_alive(); // says that the numbers are in order
         let Ok(swept) = self.drop_entries() else {
             return Err(NoMemory);
         };

@@ -11,6 +11,7 @@ use Rattle.store_laws.specs.Releasing.{released_by, AreReleasable}
 use Rattle.blob_store.specs.Says.{scene}
 use Rattle.blob_store.specs.Unheld.{AreUnheld, Drops, HaveObjects}
 use Rattle.blob_store.specs.Whole.{IsWhole}
+use Rattle.blob_store.proofs.Droppable.{dropped_behind}
 use Rattle.blob_store.proofs.DropsHeard.{drops_heard}
 use Rattle.blob_store.proofs.ObjectsLeft.{objects_left, releasable_unheld}
 use Rattle.blob_store.proofs.parts.Parts.drop_unheld.Goals as goal
@@ -51,3 +52,13 @@ returns-clause-drops g c =
     c.args.answers.now c.tell_dropped.new.answers
     (said ∙ ap (λ (list : _). c.args.answers.now ++ map (λ (name : _). Dropped name) list) c.as_slice-2.ensures)))
     c.tell_dropped.ensures
+
+pub returns-clause-behind : goal.returns-clause-behind
+unfolding IsWhole
+returns-clause-behind g c =
+    let table = of_table (seen-value (g.dyn-1.0, g.dyn-1.1)).it in
+    on_ok_weaker c.tell_dropped.result
+    (λ drops told.
+    dropped_behind c.args.answers.now c.tell_dropped.new.answers c.args.self.now told (table c.args.handles.now)
+    (scene c.drop_entries.new.self told (table c.release.new.handles)) c.requires.whole c.first_alive-first.ensures.ordered (drops told))
+    (returns-clause-drops g c)
