@@ -50,6 +50,7 @@ pub mod Grown
 pub mod Arriving
 pub mod OwnPieces
 pub mod HeardJobs
+pub mod Using
 pub mod Claiming
 pub mod Entering
 pub mod Laying

@@ -1,0 +1,111 @@
+-- A piece in memory may be the latest in the order of use, and there is room for it.
+use Rattle.std.proofs.Common.{◌≡◌, ℕ, suc, ◌<◌, ◌≤◌, ◌==◌, ◌&&◌, ◌||◌, not, Bool, true, false, cond, List, [], ◌∷◌, ◌++◌, length, map, refl, sym, ap, subst, ◌∙◌}
+use Rattle.std.proofs.Common.{Option, Some, None, arith}
+use Rattle.std.specs.Prelude.{nat_eq, slice_get, slice_index, IsSomeAnd}
+use Rattle.std.specs.List.{filter, list_any, AllByRecursion, IsDistinct}
+use Rattle.std.specs.Map.{keys_of}
+use Rattle.std.proofs.lemmas.Bool.{eqb-true}
+use Rattle.std.proofs.lemmas.Map.Entries.{length-keys_of}
+use Rattle.std.proofs.lemmas.Map.Keys.{IsDistinct-cons}
+use Rattle.std.proofs.lemmas.Map.Made.{IsDistinct-keys_filter}
+use Rattle.std.proofs.lemmas.Map.Steps.{length-le_from_distinct_below}
+use Rattle.std.proofs.lemmas.Option.{slice_get_within, slice_get-get_or}
+use Rattle.item_shares.specs.Shares.{item_at}
+use Rattle.item_shares.specs.declared.item.Item.{Item}
+use Rattle.item_shares.specs.declared.item.Item.TheVariants.{Memory, Paged, Reserved, File, Range}
+use Rattle.item_shares.specs.declared.shares.Share.{Share}
+use Rattle.recent_items.specs.Recent.{is_there, without}
+use Rattle.blob_model.proofs.Lists.{all_append, false_true, filter_all}
+use Rattle.store_laws.specs.Pageable.{pageable_if}
+use Rattle.store_laws.specs.Passing.{entered}
+use Rattle.blob_store.specs.Stored.{IsInMemory, IsMemory}
+
+-- a piece that was taken out is not there
+pub taken_out : (piece : ℕ) (order : List (ℕ × ℕ)) → is_there piece (without piece order) ≡ false
+taken_out piece [] = refl
+taken_out piece (used ∷ order) = by (nat_eq piece used.0) refl (taken_out piece order)
+  where
+    by : (b : Bool) → nat_eq piece used.0 ≡ b → is_there piece (without piece order) ≡ false
+        → is_there piece (cond (not b) (used ∷ without piece order) (without piece order)) ≡ false
+    by true at rest = rest
+    by false at rest = ap (λ (a : Bool). a || is_there piece (without piece order)) at ∙ rest
+
+-- the others differ from it
+others_differ : (piece : ℕ) (order : List (ℕ × ℕ)) → is_there piece order ≡ false → AllByRecursion (λ (other : ℕ). nat_eq piece other ≡ false) (keys_of order)
+others_differ piece [] none = tt
+others_differ piece (used ∷ order) none = by (nat_eq piece used.0) refl none (others_differ piece order)
+  where
+    by : (b : Bool) → nat_eq piece used.0 ≡ b → (b || is_there piece order) ≡ false
+        → (is_there piece order ≡ false → AllByRecursion (λ (other : ℕ). nat_eq piece other ≡ false) (keys_of order))
+        → AllByRecursion (λ (other : ℕ). nat_eq piece other ≡ false) (keys_of (used ∷ order))
+    by true at none rest = absurd (false_true (sym none))
+    by false at none rest = (at, rest none)
+
+module _ (shares : List (Option Share)) (homes : List ℕ) where
+  -- a piece in memory has a home
+  below : (used : ℕ × ℕ) → IsInMemory shares homes used → used.0 < length homes
+  below used is = by (slice_get homes used.0) refl is
+    where
+      by : (found : Option ℕ) → slice_get homes used.0 ≡ found → IsSomeAnd found (λ (slot : ℕ). IsSomeAnd (item_at shares slot) (IsMemory used))
+          → used.0 < length homes
+      by None at is = absurd is
+      by (Some slot) at is = slice_get_within homes used.0 slot at
+
+  all_below : (order : List (ℕ × ℕ)) → AllByRecursion (IsInMemory shares homes) order → (number : ℕ) → list_any (nat_eq number) (keys_of order) ≡ true
+      → number < length homes
+  all_below [] all number some = absurd (false_true some)
+  all_below (used ∷ order) all number some = by (nat_eq number used.0) refl some (all_below order all.1 number)
+    where
+      by : (b : Bool) → nat_eq number used.0 ≡ b → (b || list_any (nat_eq number) (keys_of order)) ≡ true
+          → (list_any (nat_eq number) (keys_of order) ≡ true → number < length homes) → number < length homes
+      by true at some rest = subst (λ (n : ℕ). n < length homes) (sym (eqb-true number used.0 at)) (below used all.0)
+      by false at some rest = rest some
+
+  -- so there are fewer without the piece than pieces have homes
+  pub fewer_used : (piece : ℕ) (order : List (ℕ × ℕ)) → piece < length homes → AllByRecursion (IsInMemory shares homes) order
+      → IsDistinct nat_eq (keys_of order) → length (without piece order) < length homes
+  fewer_used piece order within all apart =
+      let rest = length-keys_of (without piece order) in
+      let few =
+      length-le_from_distinct_below (piece ∷ keys_of (without piece order)) (length homes)
+      (IsDistinct-cons nat_eq piece (keys_of (without piece order)) (others_differ piece (without piece order) (taken_out piece order))
+      (IsDistinct-keys_filter nat_eq (λ (used : ℕ × ℕ). not (nat_eq piece used.0)) order apart))
+      (λ number some. here number (nat_eq number piece) refl some) in
+      omega (arith, rest, few)
+    where
+      kept : AllByRecursion (IsInMemory shares homes) (without piece order)
+      kept = filter_all (IsInMemory shares homes) (λ (used : ℕ × ℕ). not (nat_eq piece used.0)) order all
+
+      here : (number : ℕ) (b : Bool) → nat_eq number piece ≡ b → (b || list_any (nat_eq number) (keys_of (without piece order))) ≡ true
+          → number < length homes
+      here number true at some = subst (λ (n : ℕ). n < length homes) (sym (eqb-true number piece at)) within
+      here number false at some = all_below (without piece order) kept number some
+
+  -- a piece with its length that is read off its home is in memory
+  in_home : (number len slot : ℕ) (found : Option Item) → item_at shares slot ≡ found → pageable_if number false found ≡ Some (number, len)
+      → slice_get homes number ≡ Some slot → IsInMemory shares homes (number, len)
+  in_home number len slot found at is home =
+      subst (λ (o : Option ℕ). IsSomeAnd o (λ (one : ℕ). IsSomeAnd (item_at shares one) (IsMemory (number, len)))) (sym home)
+      (subst (λ (o : Option Item). IsSomeAnd o (IsMemory (number, len))) (sym at) (by found is))
+    where
+      by : (found : Option Item) → pageable_if number false found ≡ Some (number, len) → IsSomeAnd found (IsMemory (number, len))
+      by None is = absurd (cc is)
+      by (Some (Memory piece bytes)) is = go (piece.0 == number) refl is
+        where
+          go : (b : Bool) → (piece.0 == number) ≡ b → cond {A = Option (ℕ × ℕ)} (b && true) (Some (number, length bytes)) None ≡ Some (number, len)
+              → (piece.0 ≡ number) × (length bytes ≡ len)
+          go true at is = let same : (number, length bytes) ≡ (number, len) = cc is in (eqb-true piece.0 number at, ap (λ (one : ℕ × ℕ). one.1) same)
+          go false at is = absurd (cc is)
+      by (Some (Paged piece page off size)) is = absurd (cc is)
+      by (Some (Reserved piece size)) is = absurd (cc is)
+      by (Some (File name stamp off size)) is = absurd (cc is)
+      by (Some (Range handle off size)) is = absurd (cc is)
+
+  -- the order of use with it as the latest is one of pieces in memory
+  pub entered_in_memory : (number len : ℕ) (order : List (ℕ × ℕ)) → number < length homes → AllByRecursion (IsInMemory shares homes) order
+      → pageable_if number false (item_at shares (slice_index homes number)) ≡ Some (number, len)
+      → AllByRecursion (IsInMemory shares homes) (entered order (number, len))
+  entered_in_memory number len order within all is =
+      all_append (IsInMemory shares homes) (without number order) ((number, len) ∷ [])
+      (filter_all (IsInMemory shares homes) (λ (used : ℕ × ℕ). not (nat_eq number used.0)) order all)
+      (in_home number len (slice_index homes number) (item_at shares (slice_index homes number)) refl is (slice_get-get_or homes number 0 within), tt)
