@@ -1,10 +1,12 @@
 -- A piece in memory may be the latest in the order of use, and there is room for it.
-use Rattle.std.proofs.Common.{◌≡◌, ℕ, suc, ◌<◌, ◌≤◌, ◌==◌, ◌&&◌, ◌||◌, not, Bool, true, false, cond, List, [], ◌∷◌, ◌++◌, length, map, refl, sym, ap, subst, ◌∙◌}
+use Rattle.std.proofs.Common.{◌≡◌, ℕ, zero, suc, ◌+◌, ◌-◌, ◌<◌, ◌≤◌, ◌==◌, ◌&&◌, ◌||◌, not, Bool, true, false, cond, List, [], ◌∷◌, ◌++◌, length, map, refl, sym, ap, subst, ◌∙◌}
 use Rattle.std.proofs.Common.{Option, Some, None, arith}
-use Rattle.std.specs.Prelude.{nat_eq, slice_get, slice_index, IsSomeAnd}
-use Rattle.std.specs.List.{filter, list_any, AllByRecursion, IsDistinct}
+use Rattle.std.specs.Prelude.{filter_map, fold, nat_eq, slice_get, slice_index, IfSome, IsSomeAnd}
+use Rattle.std.specs.List.{list_any, range_with_len, AllByRecursion, IsDistinct}
+use Rattle.std.specs.Option.{option_map_or}
 use Rattle.std.specs.Map.{keys_of}
 use Rattle.std.proofs.lemmas.Bool.{eqb-true}
+use Rattle.std.proofs.lemmas.List.Elements.{filter_map-append}
 use Rattle.std.proofs.lemmas.Map.Entries.{length-keys_of}
 use Rattle.std.proofs.lemmas.Map.Keys.{IsDistinct-cons}
 use Rattle.std.proofs.lemmas.Map.Made.{IsDistinct-keys_filter}
@@ -18,7 +20,13 @@ use Rattle.recent_items.specs.Recent.{is_there, without}
 use Rattle.blob_model.proofs.Lists.{all_append, false_true, filter_all}
 use Rattle.store_laws.specs.Pageable.{pageable_if}
 use Rattle.store_laws.specs.Passing.{entered}
+use Rattle.blob_store.specs.Passing.{in_memory, pieces_at, row_pieces, with_used, CanEnter}
+use Rattle.blob_store.specs.Rows.{pieces_of_row, AreInTurn}
 use Rattle.blob_store.specs.Stored.{IsInMemory, IsMemory}
+use Rattle.blob_store.specs.declared.parts.Parts.{Parts}
+use Rattle.blob_store.specs.declared.row.Row.{Row}
+use Rattle.blob_store.proofs.OneMore.{turn_within}
+use Rattle.blob_store.proofs.PiecesGoing.{fold_append}
 
 -- a piece that was taken out is not there
 pub taken_out : (piece : ℕ) (order : List (ℕ × ℕ)) → is_there piece (without piece order) ≡ false
@@ -109,3 +117,69 @@ module _ (shares : List (Option Share)) (homes : List ℕ) where
       all_append (IsInMemory shares homes) (without number order) ((number, len) ∷ [])
       (filter_all (IsInMemory shares homes) (λ (used : ℕ × ℕ). not (nat_eq number used.0)) order all)
       (in_home number len (slice_index homes number) (item_at shares (slice_index homes number)) refl is (slice_get-get_or homes number 0 within), tt)
+
+-- ---- pieces one after the other
+
+-- the pieces of a blob end where those of the next one begin, or where all end
+turn_ends : (page next : ℕ) (rows : List Row) (last : ℕ) → AreInTurn page next rows last → (number : ℕ)
+    → IfSome (slice_get rows number)
+    (λ (row : Row). row.first + pieces_of_row page row ≡ option_map_or (λ (other : Row). other.first) (slice_get rows (suc number)) last)
+turn_ends page next [] last turn number = tt
+turn_ends page next (row ∷ []) last turn zero = let first = turn.0 in let rest = turn.1 in omega (arith, first, rest)
+turn_ends page next (row ∷ other ∷ rows) last turn zero = let first = turn.0 in let second = turn.1.0 in omega (arith, first, second)
+turn_ends page next (row ∷ rows) last turn (suc number) = turn_ends page (next + pieces_of_row page row) rows last turn.1 number
+
+some_within : (rows : List Row) (number : ℕ) → number < length rows → slice_get rows number ≡ None → ⊥
+some_within [] number within none = absurd (omega (arith, within))
+some_within (row ∷ rows) zero within none = absurd (cc none)
+some_within (row ∷ rows) (suc number) within none = some_within rows number (omega (arith, within)) none
+
+pub pieces_end : (page last number : ℕ) (rows : List Row) → AreInTurn page 0 rows last → number < length rows → (end : ℕ)
+    → option_map_or (λ (other : Row). other.first) (slice_get rows (number + 1)) last ≡ end
+    → IsSomeAnd (slice_get rows number) (λ (row : Row). row.first + pieces_of_row page row ≡ end)
+pieces_end page last number rows turn within end is = by (slice_get rows number) refl (turn_ends page 0 rows last turn number)
+  where
+    next : option_map_or (λ (other : Row). other.first) (slice_get rows (suc number)) last ≡ end
+    next = ap (λ (n : ℕ). option_map_or (λ (other : Row). other.first) (slice_get rows n) last) (omega arith) ∙ is
+
+    by : (found : Option Row) → slice_get rows number ≡ found
+        → IfSome found (λ (row : Row). row.first + pieces_of_row page row ≡ option_map_or (λ (other : Row). other.first) (slice_get rows (suc number)) last)
+        → IsSomeAnd found (λ (row : Row). row.first + pieces_of_row page row ≡ end)
+    by None at ends = absurd (some_within rows number within at)
+    by (Some row) at ends = ends ∙ next
+
+module _ (parts : Parts) (number end : ℕ) (row : Row) (at : slice_get parts.rows number ≡ Some row)
+    (ends : IsSomeAnd (slice_get parts.rows number) (λ (one : Row). one.first + pieces_of_row parts.limits.page one ≡ end)) where
+  long : row.first + pieces_of_row parts.limits.page row ≡ end
+  long = subst (λ (found : Option Row). IsSomeAnd found (λ (one : Row). one.first + pieces_of_row parts.limits.page one ≡ end)) at ends
+
+  -- so they are those from its first one on to there
+  pub pieces_are : pieces_at parts number ≡ range_with_len row.first (end - row.first)
+  pieces_are =
+      ap (λ (found : Option Row). option_map_or (row_pieces parts.limits.page) found []) at
+      ∙ ap (range_with_len row.first) (let is = long in omega (arith, is))
+
+  -- and each has a home
+  pub piece_within : CanEnter parts → (done : ℕ) → done < end - row.first → row.first + done < length parts.homes
+  piece_within enters done less =
+      let is = long in
+      let within : row.first + pieces_of_row parts.limits.page row ≤ length parts.homes =
+      subst (λ (found : Option Row). IfSome found (λ (one : Row). one.first + pieces_of_row parts.limits.page one ≤ length parts.homes)) at
+      (turn_within parts.limits.page 0 parts.rows (length parts.homes) enters.in_turn number) in
+      omega (arith, is, within, less)
+
+-- the next piece is used after those before it
+pub used_more : (parts : Parts) (one two : List ℕ) → with_used two (with_used one parts) ≡ with_used (one ++ two) parts
+used_more parts one two i = record parts { recent = (sym recent_so) i }
+  where
+    recent_so : fold entered parts.recent (filter_map (in_memory parts) (one ++ two))
+        ≡ fold entered (fold entered parts.recent (filter_map (in_memory parts) one)) (filter_map (in_memory parts) two)
+    recent_so =
+        ap (fold entered parts.recent) (filter_map-append (in_memory parts) one two)
+        ∙ fold_append entered (filter_map (in_memory parts) one) (filter_map (in_memory parts) two) parts.recent
+
+pub range_more : (first count : ℕ) → range_with_len first (suc count) ≡ range_with_len first count ++ (first + count) ∷ []
+range_more first zero = ap (λ (n : ℕ). n ∷ []) (omega arith)
+range_more first (suc count) =
+    ap (λ (rest : List ℕ). first ∷ rest)
+    (range_more (first + 1) count ∙ ap (λ (n : ℕ). range_with_len (first + 1) count ++ n ∷ []) (omega arith))

@@ -1,5 +1,5 @@
 -- Which pieces a pass makes the latest in the order of use: those in memory of blobs that got done. Own.
-use Rattle.std.specs.Prelude.{ℕ, ◌≤◌, List, [], length, Option, None, flat_map, filter_map, fold, slice_get, slice_index, if◌then◌else◌}
+use Rattle.std.specs.Prelude.{ℕ, ◌≡◌, ◌≤◌, List, [], length, Option, None, flat_map, filter_map, fold, slice_get, slice_index, if◌then◌else◌}
 use Rattle.std.specs.List.{range_with_len, AllByRecursion}
 use Rattle.std.specs.Option.{option_map_or}
 use Rattle.blob_words.specs.declared.bounds.TheConstants.{MOST_PIECES}
@@ -13,17 +13,19 @@ use Rattle.blob_store.specs.Stored.{IsInMemory}
 use Rattle.blob_store.specs.declared.parts.Parts.{Parts}
 use Rattle.blob_store.specs.declared.row.Row.{Row}
 
--- the pieces of a blob, and those of the blob of a name
+-- the pieces of the blob of a build number, and of a name
 abbrev pub row_pieces : ℕ → Row → List ℕ
 row_pieces page row = range_with_len row.first (pieces_of_row page row)
 
-abbrev pub pieces_under : ℕ → List ℕ → List Row → ℕ → List ℕ
-pieces_under page names rows name =
-    option_map_or (λ (number : ℕ). option_map_or (row_pieces page) (slice_get rows number) []) (number_of name names) []
+abbrev pub pieces_at : Parts → ℕ → List ℕ
+pieces_at parts number = option_map_or (row_pieces parts.limits.page) (slice_get parts.rows number) []
+
+abbrev pub pieces_under : Parts → ℕ → List ℕ
+pieces_under parts name = option_map_or (pieces_at parts) (number_of name parts.registry.names) []
 
 -- those of a blob that got done
-abbrev pub pieces_done : ℕ → List ℕ → List Row → EndedBlob → List ℕ
-pieces_done page names rows end = if is_done end.status then pieces_under page names rows end.name else []
+abbrev pub pieces_done : Parts → EndedBlob → List ℕ
+pieces_done parts end = if is_done end.status then pieces_under parts end.name else []
 
 -- a piece with its length, where the item in its home has it in memory
 abbrev pub in_memory : Parts → ℕ → Option (ℕ × ℕ)
@@ -33,8 +35,9 @@ in_memory parts number = pageable_at parts.shares None (slice_index parts.homes)
 abbrev pub with_used : List ℕ → Parts → Parts
 with_used numbers parts = record parts { recent = fold entered parts.recent (filter_map (in_memory parts) numbers) }
 
--- the pieces in the order of use are in memory, and pieces are numbered in turn and not too many
+-- the pieces in the order of use are in memory, and pieces are numbered in turn, blob by blob, and not too many
 pub record CanEnter (parts : Parts) : Type 0 where
   pub order : AllByRecursion (IsInMemory parts.shares parts.homes) parts.recent
   pub in_turn : AreInTurn parts.limits.page 0 parts.rows (length parts.homes)
   pub most : length parts.homes ≤ MOST_PIECES
+  pub each_row : length parts.rows ≡ length parts.registry.names

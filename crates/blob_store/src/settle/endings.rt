@@ -1,5 +1,5 @@
 //! List 2: the blobs that end now.
-ghost use Rattle.std.specs.Prelude.{◌≡◌, ◌<◌, ◌≤◌, [], ◌∷◌, None, flat_map, length, slice_index, sum, OnOk};
+ghost use Rattle.std.specs.Prelude.{◌≡◌, ◌<◌, ◌+◌, [], ◌∷◌, flat_map, length, slice_get, IsSomeAnd, OnOk};
 ghost use Rattle.std.specs.Option.{option_map};
 ghost use Rattle.std.specs.List.{range_with_len};
 ghost use Rattle.transport_plan.specs.Spans.{piece_count};
@@ -12,7 +12,7 @@ use item_shares::Item;
 use transport_plan::pieces_of;
 
 impl Parts {
-    ghost use Rattle.blob_store.specs.Passing.{in_memory, pieces_done, pieces_under, with_used};
+    ghost use Rattle.blob_store.specs.Passing.{in_memory, pieces_at, pieces_done, pieces_under, with_used};
     ghost use Rattle.blob_store.specs.Passing.{CanEnter};
     ghost use Rattle.blob_store.specs.Rows.{pieces_of_row};
 
@@ -49,5 +49,72 @@ impl Parts {
         self.recent.leave(piece);
         let entered = self.recent.enter(piece, len)?;
         Ok(entered)
+    }
+
+    // The number behind the last piece of a blob.
+    fn pieces_end(&self, number: u32) -> u32
+        requires number { number < length self.now.rows }
+        requires enters { CanEnter self.now }
+        ensures { IsSomeAnd (slice_get self.now.rows number)
+            (λ row. row.first + pieces_of_row self.now.limits.page row ≡ result) }
+    {
+        let next = number as usize + 1;
+        if next < self.rows.len() {
+            self.rows.as_slice()[next].first
+        } else {
+            self.homes.len() as u32
+        }
+    }
+
+    // The pieces of a blob that are in memory are the latest.
+    fn enter_pieces(&mut self, number: u32) -> Result<(), NoMemory>
+        requires number { number < length self.old.rows }
+        requires enters { CanEnter self.old }
+        ensures enters { OnOk result (CanEnter self.new) }
+        ensures used { OnOk result (self.new ≡ with_used (pieces_at self.old number) self.old) }
+    {
+        let first = self.rows.as_slice()[number as usize].first;
+        let count = self.pieces_end(number) - first;
+        for done in 0..count {
+            self.enter_piece(first + done)?;
+        }
+        Ok(())
+    }
+
+    // Those of the blob of this name are.
+    fn enter_blob(&mut self, name: BlobName) -> Result<(), NoMemory>
+        requires { CanEnter self.old }
+        ensures enters { OnOk result (CanEnter self.new) }
+        ensures used { OnOk result (self.new ≡ with_used (pieces_under self.old name) self.old) }
+    {
+        if let Some(number) = self.registry.number_of(name) {
+            self.enter_pieces(number)?;
+        }
+        Ok(())
+    }
+
+    // Those of a blob that got done are.
+    fn enter_end(&mut self, end: &EndedBlob) -> Result<(), NoMemory>
+        requires { CanEnter self.old }
+        ensures enters { OnOk result (CanEnter self.new) }
+        ensures used { OnOk result (self.new ≡ with_used (pieces_done self.old end.now) self.old) }
+    {
+        if let Status::Done = end.status {
+            self.enter_blob(end.name)?;
+        }
+        Ok(())
+    }
+
+    // Those of the blobs that got done are, in the order of the endings.
+    fn enter_done(&mut self, ended: &[EndedBlob]) -> Result<(), NoMemory>
+        requires { CanEnter self.old }
+        ensures enters { OnOk result (CanEnter self.new) }
+        ensures used { OnOk result
+            (self.new ≡ with_used (flat_map (pieces_done self.old) ended.now) self.old) }
+    {
+        for end in ended {
+            self.enter_end(end)?;
+        }
+        Ok(())
     }
 }

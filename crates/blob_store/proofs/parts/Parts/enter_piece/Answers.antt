@@ -29,4 +29,5 @@ returns-clause-enters c =
           (sym c.in-Some.ensures));
       in_turn = c.requires.enters.in_turn;
       most = c.requires.enters.most;
+      each_row = c.requires.enters.each_row;
     }
