@@ -1,11 +1,13 @@
 -- A piece in memory may be the latest in the order of use, and there is room for it.
 use Rattle.std.proofs.Common.{◌≡◌, ℕ, zero, suc, ◌+◌, ◌-◌, ◌<◌, ◌≤◌, ◌==◌, ◌&&◌, ◌||◌, not, Bool, true, false, cond, List, [], ◌∷◌, ◌++◌, length, map, refl, sym, ap, subst, ◌∙◌}
-use Rattle.std.proofs.Common.{Option, Some, None, arith}
-use Rattle.std.specs.Prelude.{filter_map, fold, nat_eq, slice_get, slice_index, IfSome, IsSomeAnd}
+use Rattle.std.proofs.Common.{Option, Some, None, get_or, take, arith}
+use Rattle.std.specs.Prelude.{filter_map, flat_map, fold, nat_eq, slice_get, slice_index, IfSome, IsSomeAnd}
 use Rattle.std.specs.List.{list_any, range_with_len, AllByRecursion, IsDistinct}
 use Rattle.std.specs.Option.{option_map_or}
 use Rattle.std.specs.Map.{keys_of}
 use Rattle.std.proofs.lemmas.Bool.{eqb-true}
+use Rattle.std.proofs.lemmas.Grind.{flat_map-append}
+use Rattle.std.proofs.lemmas.List.{append-nil, take_more}
 use Rattle.std.proofs.lemmas.List.Elements.{filter_map-append}
 use Rattle.std.proofs.lemmas.Map.Entries.{length-keys_of}
 use Rattle.std.proofs.lemmas.Map.Keys.{IsDistinct-cons}
@@ -17,10 +19,11 @@ use Rattle.item_shares.specs.declared.item.Item.{Item}
 use Rattle.item_shares.specs.declared.item.Item.TheVariants.{Memory, Paged, Reserved, File, Range}
 use Rattle.item_shares.specs.declared.shares.Share.{Share}
 use Rattle.recent_items.specs.Recent.{is_there, without}
+use Rattle.blob_registry.specs.declared.ended_blob.EndedBlob.{EndedBlob}
 use Rattle.blob_model.proofs.Lists.{all_append, false_true, filter_all}
 use Rattle.store_laws.specs.Pageable.{pageable_if}
 use Rattle.store_laws.specs.Passing.{entered}
-use Rattle.blob_store.specs.Passing.{in_memory, pieces_at, row_pieces, with_used, CanEnter}
+use Rattle.blob_store.specs.Passing.{in_memory, pieces_at, pieces_done, row_pieces, with_used, CanEnter}
 use Rattle.blob_store.specs.Rows.{pieces_of_row, AreInTurn}
 use Rattle.blob_store.specs.Stored.{IsInMemory, IsMemory}
 use Rattle.blob_store.specs.declared.parts.Parts.{Parts}
@@ -183,3 +186,16 @@ range_more first zero = ap (λ (n : ℕ). n ∷ []) (omega arith)
 range_more first (suc count) =
     ap (λ (rest : List ℕ). first ∷ rest)
     (range_more (first + 1) count ∙ ap (λ (n : ℕ). range_with_len (first + 1) count ++ n ∷ []) (omega arith))
+
+-- and those of the next blob that ended after those of the blobs before it
+pub used_next : (parts now : Parts) (list : List EndedBlob) (i : ℕ) (end : EndedBlob) → i < length list → end ≡ get_or list i end
+    → now ≡ with_used (flat_map (pieces_done parts) (take i list)) parts
+    → with_used (pieces_done now end) now ≡ with_used (flat_map (pieces_done parts) (take (i + 1) list)) parts
+used_next parts now list i end within at is =
+    ap (λ (one : Parts). with_used (pieces_done one end) one) is
+    ∙ used_more parts (flat_map (pieces_done parts) (take i list)) (pieces_done parts end)
+    ∙ ap (λ (numbers : List ℕ). with_used numbers parts)
+    (ap (λ (last : List ℕ). flat_map (pieces_done parts) (take i list) ++ last) (sym (append-nil (pieces_done parts end)))
+    ∙ sym (flat_map-append (pieces_done parts) (take i list) (end ∷ []))
+    ∙ ap (λ (one : EndedBlob). flat_map (pieces_done parts) (take i list ++ one ∷ [])) at
+    ∙ ap (flat_map (pieces_done parts)) (sym (take_more list i end within)))

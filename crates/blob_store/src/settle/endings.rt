@@ -106,7 +106,7 @@ impl Parts {
     }
 
     // Those of the blobs that got done are, in the order of the endings.
-    fn enter_done(&mut self, ended: &[EndedBlob]) -> Result<(), NoMemory>
+    pub(crate) fn enter_done(&mut self, ended: &[EndedBlob]) -> Result<(), NoMemory>
         requires { CanEnter self.old }
         ensures enters { OnOk result (CanEnter self.new) }
         ensures used { OnOk result
