@@ -51,6 +51,7 @@ pub mod Arriving
 pub mod OwnPieces
 pub mod HeardJobs
 pub mod Using
+pub mod Lasting
 pub mod Claiming
 pub mod Entering
 pub mod Laying

@@ -1,12 +1,14 @@
 //! List 2: the blobs that end now.
-ghost use Rattle.std.specs.Prelude.{◌≡◌, ◌<◌, ◌+◌, [], ◌∷◌, flat_map, length, slice_get, IsSomeAnd, OnOk};
+ghost use Rattle.std.specs.Prelude.{IfOk, ◌≡◌, ◌<◌, ◌+◌, [], ◌∷◌, flat_map, length, slice_get, IsSomeAnd, OnOk};
 ghost use Rattle.std.specs.Option.{option_map};
 ghost use Rattle.std.specs.List.{range_with_len};
-ghost use Rattle.transport_plan.specs.Spans.{piece_count};
+ghost use Rattle.blob_entries.specs.Counted.{SameItems};
+ghost use Rattle.blob_entries.specs.Sound.{AreSound};
+ghost use Rattle.blob_registry.specs.Passes.{Finishes};
 
 use crate::parts::Parts;
 use crate::row::Row;
-use blob_registry::ended_blob::EndedBlob;
+use blob_registry::ended_blob::{EndedBlob, Endings};
 use blob_words::{BlobName, NoMemory, PieceNo, Status};
 use item_shares::Item;
 use transport_plan::pieces_of;
@@ -15,6 +17,7 @@ impl Parts {
     ghost use Rattle.blob_store.specs.Passing.{in_memory, pieces_at, pieces_done, pieces_under, with_used};
     ghost use Rattle.blob_store.specs.Passing.{CanEnter};
     ghost use Rattle.blob_store.specs.Rows.{pieces_of_row};
+    ghost use Rattle.blob_store.specs.Whole.{IsCharged, IsWhole};
 
     // The length of a piece, where its item is in memory.
     fn memory_length(&self, number: u32) -> Option<u64>
@@ -116,5 +119,27 @@ impl Parts {
             self.enter_end(end)?;
         }
         Ok(())
+    }
+
+    // Each blob that ends now has ended, in order of build.
+    #[tactic(auto, unfolding(crate::specs::Whole::IsCharged, crate::specs::Whole::IsWhole))]
+    fn finish(&mut self) -> Result<Endings, NoMemory>
+        requires { IsWhole self.old }
+        ensures finishes { IfOk result (λ list.
+            Finishes self.old.registry self.new.registry list) }
+        ensures same { OnOk result (SameItems self.old.registry.entries self.new.registry.entries
+            self.old.shares self.new.shares) }
+        ensures sound { AreSound self.old.registry.names self.old.registry.entries }
+        ensures charged { OnOk result (IsCharged self.new) }
+        ensures rest { OnOk result (self.new ≡ record self.old {
+          registry = self.new.registry;
+          shares = self.new.shares;
+        }) }
+    {
+        let _count = self.registry.registered(); // says that the entries are sound
+        let Ok(ended) = self.registry.finish_pass(&mut self.shares) else {
+            return Err(NoMemory);
+        };
+        Ok(ended)
     }
 }
