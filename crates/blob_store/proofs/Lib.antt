@@ -52,6 +52,7 @@ pub mod OwnPieces
 pub mod HeardJobs
 pub mod Using
 pub mod Lasting
+pub mod Ended
 pub mod Claiming
 pub mod Entering
 pub mod Laying

@@ -1,10 +1,12 @@
 //! List 2: the blobs that end now.
-ghost use Rattle.std.specs.Prelude.{IfOk, ◌≡◌, ◌<◌, ◌+◌, [], ◌∷◌, flat_map, length, slice_get, IsSomeAnd, OnOk};
+ghost use Rattle.std.specs.Prelude.{IfOk, List, ◌≡◌, ◌<◌, ◌+◌, [], ◌∷◌, flat_map, length, slice_get, IsSomeAnd, OnOk};
 ghost use Rattle.std.specs.Option.{option_map};
 ghost use Rattle.std.specs.List.{range_with_len};
 ghost use Rattle.blob_entries.specs.Counted.{SameItems};
 ghost use Rattle.blob_entries.specs.Sound.{AreSound};
 ghost use Rattle.blob_registry.specs.Passes.{Finishes};
+ghost use Rattle.page_disk.specs.declared.change.Change.{Change};
+ghost use Rattle.page_files.specs.Files.{Agrees};
 
 use crate::parts::Parts;
 use crate::row::Row;
@@ -15,7 +17,7 @@ use transport_plan::pieces_of;
 
 impl Parts {
     ghost use Rattle.blob_store.specs.Passing.{in_memory, pieces_at, pieces_done, pieces_under, with_used};
-    ghost use Rattle.blob_store.specs.Passing.{CanEnter};
+    ghost use Rattle.blob_store.specs.Passing.{CanEnter, EntriesEnd};
     ghost use Rattle.blob_store.specs.Rows.{pieces_of_row};
     ghost use Rattle.blob_store.specs.Whole.{IsCharged, IsWhole};
 
@@ -140,6 +142,23 @@ impl Parts {
         let Ok(ended) = self.registry.finish_pass(&mut self.shares) else {
             return Err(NoMemory);
         };
+        Ok(ended)
+    }
+
+    // The blobs that end now, with what was kept of them beside. After want of memory the parts are
+    // only to be dropped.
+    #[tactic(auto, unfolding(crate::specs::Whole::IsCharged, crate::specs::Whole::IsWhole))]
+    pub(crate) fn end_entries(&mut self) -> Result<Endings, NoMemory>
+        requires { IsWhole self.old }
+        ensures ends { IfOk result (λ list. EntriesEnd list self.old self.new) }
+        ensures charged { OnOk result (IsCharged self.new) }
+        ensures sound { AreSound self.old.registry.names self.old.registry.entries }
+        ensures agrees { OnOk result ((changes : List Change)
+            → Agrees self.old.pages.pages changes → Agrees self.new.pages.pages changes) }
+    {
+        let ended = self.finish()?;
+        self.enter_done(ended.as_slice())?;
+        self.end_rows(ended.as_slice());
         Ok(ended)
     }
 }
