@@ -1,15 +1,13 @@
 -- What a pass leaves lets pieces be entered and rows be settled.
-use Rattle.std.proofs.Common.{◌≡◌, ℕ, ◌+◌, ◌<◌, List, Option, Some, None, length, ap, subst, sym, ◌∙◌, arith}
+use Rattle.std.proofs.Common.{◌≡◌, ℕ, List, Option, Some, None, length, ap, subst, sym, ◌∙◌, arith}
 use Rattle.std.specs.Prelude.{flat_map, fold, slice_get, IfSome, IsSomeAnd}
-use Rattle.std.specs.List.{AllByRecursion}
 use Rattle.item_shares.specs.Shares.{item_at, HoldsPiece}
 use Rattle.item_shares.specs.declared.item.Item.{Item}
 use Rattle.blob_entries.specs.Book.{book_of, Book}
 use Rattle.blob_entries.specs.Counted.{SameItems}
 use Rattle.blob_registry.specs.Passes.{Finishes}
 use Rattle.blob_registry.specs.declared.ended_blob.EndedBlob.{EndedBlob}
-use Rattle.quota_queue.specs.Queue.{without, Queue}
-use Rattle.store_laws.specs.LetGo.{left_by}
+use Rattle.quota_queue.specs.Queue.{without}
 use Rattle.store_laws.specs.Passing.{ended_names}
 use Rattle.blob_model.proofs.Lists.{for_each}
 use Rattle.blob_store.specs.declared.parts.Parts.{Parts}

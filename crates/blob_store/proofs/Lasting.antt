@@ -1,9 +1,8 @@
 -- A pass leaves a view on each slot that had one, so counts and charges agree behind it.
-use Rattle.std.proofs.Common.{◌≡◌, ℕ, ◌+◌, ◌<◌, ◌≤◌, ◌==◌, ◌||◌, Bool, true, false, cond, List, [], ◌∷◌, ◌++◌, length, map, refl, sym, ap, subst, ◌∙◌}
+use Rattle.std.proofs.Common.{◌≡◌, ℕ, ◌+◌, ◌<◌, ◌==◌, ◌||◌, Bool, true, false, cond, List, [], ◌∷◌, ◌++◌, map, refl, sym, ap, subst, ◌∙◌}
 use Rattle.std.proofs.Common.{Option, Some, None, zero, suc, arith}
 use Rattle.std.specs.Prelude.{drop, take, IfSome, IsSomeAnd}
-use Rattle.std.specs.List.{list_any, range_with_len, AllByRecursion}
-use Rattle.std.proofs.lemmas.Bool.{eq-eqb}
+use Rattle.std.specs.List.{list_any, range_with_len}
 use Rattle.std.proofs.lemmas.List.Folds.{list_any-append}
 use Rattle.blob_words.specs.declared.status.Status.{Status}
 use Rattle.blob_words.specs.declared.status.Status.TheVariants as statuses
@@ -22,7 +21,7 @@ use Rattle.blob_entries.specs.Statuses.{is_pending}
 use Rattle.blob_entries.specs.declared.entry.Entry.{Entry}
 use Rattle.blob_entries.specs.declared.step.Step.{Step}
 use Rattle.blob_entries.specs.declared.step.Step.TheVariants.{Own, Fixed, Source}
-use Rattle.blob_entries.proofs.Counting.{on_append, on_cons}
+use Rattle.blob_entries.proofs.Counting.{on_cons}
 use Rattle.blob_entries.proofs.Holdings.{in_at, in_cons, on_held, on_parts}
 use Rattle.blob_registry.specs.Passes.{Finishes}
 use Rattle.blob_registry.specs.declared.ended_blob.EndedBlob.{EndedBlob}

@@ -1,5 +1,5 @@
 //! List 2: the blobs that end now.
-ghost use Rattle.std.specs.Prelude.{IfOk, List, ◌≡◌, ◌<◌, ◌+◌, [], ◌∷◌, flat_map, length, slice_get, IsSomeAnd, OnOk};
+ghost use Rattle.std.specs.Prelude.{IfOk, List, ◌++◌, map, ◌≡◌, ◌<◌, ◌+◌, [], ◌∷◌, flat_map, length, slice_get, IsSomeAnd, OnOk};
 ghost use Rattle.std.specs.Option.{option_map};
 ghost use Rattle.std.specs.List.{range_with_len};
 ghost use Rattle.blob_entries.specs.Counted.{SameItems};
@@ -7,13 +7,34 @@ ghost use Rattle.blob_entries.specs.Sound.{AreSound};
 ghost use Rattle.blob_registry.specs.Passes.{Finishes};
 ghost use Rattle.page_disk.specs.declared.change.Change.{Change};
 ghost use Rattle.page_files.specs.Files.{Agrees};
+ghost use Rattle.registry_laws.specs.Laws.{ending_answer};
 
 use crate::parts::Parts;
-use crate::row::Row;
+use answer_text::{Answer, Answers};
 use blob_registry::ended_blob::{EndedBlob, Endings};
 use blob_words::{BlobName, NoMemory, PieceNo, Status};
 use item_shares::Item;
 use transport_plan::pieces_of;
+
+// How it is told that a blob ended.
+fn answer_of(end: &EndedBlob) -> Answer
+    ensures { result ≡ ending_answer end.now }
+{
+    match end.status {
+        Status::Done => Answer::Done(end.name),
+        status => Answer::Broken(end.name, status),
+    }
+}
+
+/// Tells of each of these blobs how it ended.
+pub fn tell_ended(answers: &mut Answers, ended: &[EndedBlob]) -> Result<(), NoMemory>
+    ensures { OnOk result (answers.new ≡ answers.old ++ map ending_answer ended.now) }
+{
+    for end in ended {
+        answers.push(answer_of(end))?;
+    }
+    Ok(())
+}
 
 impl Parts {
     ghost use Rattle.blob_store.specs.Passing.{in_memory, pieces_at, pieces_done, pieces_under, with_used};

@@ -1,5 +1,5 @@
 -- What a pass leaves lets pieces be entered and rows be settled.
-use Rattle.std.proofs.Common.{◌≡◌, ℕ, List, ap, subst, sym, ◌∙◌}
+use Rattle.std.proofs.Common.{ℕ, List, ap, subst, sym, ◌∙◌}
 use Rattle.std.specs.Prelude.{flat_map, fold}
 use Rattle.blob_registry.specs.declared.ended_blob.EndedBlob.{EndedBlob}
 use Rattle.quota_queue.specs.Queue.{without}

@@ -1,7 +1,7 @@
 -- There is room for a piece in memory, which may be the latest.
-use Rattle.std.proofs.Common.{◌≡◌, ℕ, ◌<◌, ◌++◌, [], ◌∷◌, false, List, Option, Some, length, sym, ap, subst, ◌∙◌, arith}
+use Rattle.std.proofs.Common.{◌≡◌, ℕ, ◌++◌, [], ◌∷◌, false, List, length, sym, ap, subst, ◌∙◌, arith}
 use Rattle.std.specs.List.{AllByRecursion}
-use Rattle.recent_items.specs.Recent.{is_there, without}
+use Rattle.recent_items.specs.Recent.{is_there}
 use Rattle.blob_store.specs.Stored.{IsInMemory}
 use Rattle.blob_store.proofs.Using.{entered_in_memory, fewer_used, taken_out}
 use Rattle.blob_store.proofs.parts.Parts.enter_piece.Goals as goal
