@@ -1,7 +1,7 @@
 //! List 2: the blobs that end now.
-ghost use Rattle.std.specs.Prelude.{IfOk, List, ◌++◌, map, ◌≡◌, ◌<◌, ◌+◌, [], ◌∷◌, flat_map, length, slice_get, IsSomeAnd, OnOk};
+ghost use Rattle.std.specs.Prelude.{◌≡◌, ◌<◌, ◌+◌, ◌++◌, List, [], ◌∷◌, flat_map, length, map};
+ghost use Rattle.std.specs.Prelude.{slice_get, IfOk, IsSomeAnd, OnOk};
 ghost use Rattle.std.specs.Option.{option_map};
-ghost use Rattle.std.specs.List.{range_with_len};
 ghost use Rattle.blob_entries.specs.Counted.{SameItems};
 ghost use Rattle.blob_entries.specs.Sound.{AreSound};
 ghost use Rattle.blob_registry.specs.Passes.{Finishes};
@@ -14,7 +14,6 @@ use answer_text::{Answer, Answers};
 use blob_registry::ended_blob::{EndedBlob, Endings};
 use blob_words::{BlobName, NoMemory, PieceNo, Status};
 use item_shares::Item;
-use transport_plan::pieces_of;
 
 // How it is told that a blob ended.
 fn answer_of(end: &EndedBlob) -> Answer
