@@ -49,9 +49,12 @@ use Rattle.blob_store.proofs.SweptEntries.{gone_told, left_at}
 -- ---- a piece that wasn't used is not used when items go
 
 unused_item : (piece : ℕ) (item : Item) (order : List (ℕ × ℕ)) → is_there piece order ≡ false → is_there piece (left_by order item) ≡ false
-unused_item piece (Memory one bytes) order none = none_filtered (λ (used : ℕ × ℕ). nat_eq piece used.0) (λ (used : ℕ × ℕ). not (nat_eq one.0 used.0)) order none
-unused_item piece (Paged one page off len) order none = none_filtered (λ (used : ℕ × ℕ). nat_eq piece used.0) (λ (used : ℕ × ℕ). not (nat_eq one.0 used.0)) order none
-unused_item piece (Reserved one len) order none = none_filtered (λ (used : ℕ × ℕ). nat_eq piece used.0) (λ (used : ℕ × ℕ). not (nat_eq one.0 used.0)) order none
+unused_item piece (Memory one bytes) order none =
+    none_filtered (λ (used : ℕ × ℕ). nat_eq piece used.0) (λ (used : ℕ × ℕ). not (nat_eq one.0 used.0)) order none
+unused_item piece (Paged one page off len) order none =
+    none_filtered (λ (used : ℕ × ℕ). nat_eq piece used.0) (λ (used : ℕ × ℕ). not (nat_eq one.0 used.0)) order none
+unused_item piece (Reserved one len) order none =
+    none_filtered (λ (used : ℕ × ℕ). nat_eq piece used.0) (λ (used : ℕ × ℕ). not (nat_eq one.0 used.0)) order none
 unused_item piece (File name stamp off len) order none = none
 unused_item piece (Range slot off len) order none = none
 

@@ -1,5 +1,6 @@
 -- A piece in memory may be the latest in the order of use, and there is room for it.
-use Rattle.std.proofs.Common.{◌≡◌, ℕ, zero, suc, ◌+◌, ◌-◌, ◌<◌, ◌≤◌, ◌==◌, ◌&&◌, ◌||◌, not, Bool, true, false, cond, List, [], ◌∷◌, ◌++◌, length, refl, sym, ap, subst, ◌∙◌}
+use Rattle.std.proofs.Common.{◌≡◌, ℕ, zero, suc, ◌+◌, ◌-◌, ◌<◌, ◌≤◌, ◌==◌, ◌&&◌, ◌||◌, not, Bool}
+use Rattle.std.proofs.Common.{true, false, cond, List, [], ◌∷◌, ◌++◌, length, refl, sym, ap, subst, ◌∙◌}
 use Rattle.std.proofs.Common.{Option, Some, None, get_or, take, arith}
 use Rattle.std.specs.Prelude.{filter_map, flat_map, fold, nat_eq, slice_get, slice_index, IfSome, IsSomeAnd}
 use Rattle.std.specs.List.{list_any, range_with_len, AllByRecursion, IsDistinct}

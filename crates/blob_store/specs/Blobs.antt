@@ -1,5 +1,6 @@
 -- What the entries of a store keep with the items that they view, and with the rows beside them. Own.
-use Rattle.std.specs.Prelude.{ℕ, ◌≡◌, ◌+◌, ◌<◌, ◌≤◌, ◌^◌, false, true, List, filter, flat_map, length, slice_get, slice_index, Option, None, Some, IfSome, IsSome, IsSomeAnd}
+use Rattle.std.specs.Prelude.{ℕ, ◌≡◌, ◌+◌, ◌<◌, ◌≤◌, ◌^◌, false, true, List, filter}
+use Rattle.std.specs.Prelude.{flat_map, length, slice_get, slice_index, Option, None, Some, IfSome, IsSome, IsSomeAnd}
 use Rattle.std.specs.List.{AllByRecursion}
 use Rattle.blob_words.specs.declared.status.Status.{Status}
 use Rattle.blob_words.specs.declared.status.Status.TheVariants.{PendingQuota, PendingTransport}

@@ -36,7 +36,8 @@ pub fn tell_ended(answers: &mut Answers, ended: &[EndedBlob]) -> Result<(), NoMe
 }
 
 impl Parts {
-    ghost use Rattle.blob_store.specs.Passing.{in_memory, pieces_at, pieces_done, pieces_under, with_used};
+    ghost use Rattle.blob_store.specs.Passing.{in_memory, pieces_at};
+    ghost use Rattle.blob_store.specs.Passing.{pieces_done, pieces_under, with_used};
     ghost use Rattle.blob_store.specs.Passing.{CanEnter, EntriesEnd};
     ghost use Rattle.blob_store.specs.Rows.{pieces_of_row};
     ghost use Rattle.blob_store.specs.Whole.{IsCharged, IsWhole};
