@@ -1,17 +1,21 @@
 -- The entry of a blob that is added views its items, and its sources were built.
-use Rattle.std.proofs.Common.{◌≡◌, ℕ, ◌+◌, ◌<◌, ◌≤◌, ◌==◌, ◌||◌, false, cond, List, [], ◌∷◌, ◌++◌, length, map, refl, sym, ap, subst, ◌∙◌, Option, Some, None, arith}
-use Rattle.std.specs.Prelude.{count_by, slice_get, IsSomeAnd}
-use Rattle.std.specs.List.{AllByRecursion}
+use Rattle.std.proofs.Common.{◌≡◌, ℕ, ◌+◌, ◌<◌, ◌≤◌, ◌==◌, ◌||◌, false, cond, List, [], ◌∷◌}
+use Rattle.std.proofs.Common.{◌++◌, length, map, refl, sym, ap, subst, ◌∙◌, Option, Some, None, arith}
+use Rattle.std.specs.Prelude.{count_by, slice_get, IfSome, IsSomeAnd}
+use Rattle.std.specs.List.{list_any, AllByRecursion}
 use Rattle.std.proofs.lemmas.Bool.Decides.{nat_tests}
 use Rattle.std.proofs.lemmas.List.{append-nil, length-append}
 use Rattle.std.proofs.lemmas.List.Sums.{sum_by-cons}
 use Rattle.std.proofs.lemmas.Option.{slice_get_within}
+use Rattle.blob_words.specs.declared.number.PageNo.{PageNo}
+use Rattle.blob_words.specs.declared.number.PieceNo.{PieceNo}
 use Rattle.blob_words.specs.declared.number.RendererId.{RendererId}
 use Rattle.blob_words.specs.declared.plan.Plan.{Plan}
 use Rattle.blob_words.specs.declared.plan.Plan.TheVariants as plans
 use Rattle.session_script.specs.declared.event.Part.{Part}
 use Rattle.item_shares.specs.Shares.{item_at, share_at}
 use Rattle.item_shares.specs.declared.item.Item.{Item}
+use Rattle.item_shares.specs.declared.item.Item.TheVariants.{Memory, Paged, Reserved, File, Range}
 use Rattle.item_shares.specs.declared.shares.Share.{Share}
 use Rattle.blob_items.specs.declared.view.View.{View}
 use Rattle.blob_entries.specs.Counts.{views_on}
@@ -21,6 +25,9 @@ use Rattle.blob_entries.specs.declared.step.Step.{Step}
 use Rattle.blob_entries.proofs.Counting.{on_append, on_cons}
 use Rattle.blob_model.specs.Parts.{own_lengths}
 use Rattle.blob_model.proofs.Lists.{all_append, append_second}
+use Rattle.page_files.specs.Files.{left_of, source_of}
+use Rattle.page_files.specs.Items.{IsMemoryOf, IsPagedOf}
+use Rattle.page_files.specs.declared.held.Held.{Held}
 use Rattle.recent_items.specs.Recent.{is_there}
 use Rattle.transport_plan.specs.Spans.{piece_count}
 use Rattle.store_laws.specs.Items.{item_length}
@@ -37,7 +44,7 @@ use Rattle.store_laws.specs.NewItems.{range_items}
 use Rattle.blob_store.specs.Putting.{span}
 use Rattle.blob_store.specs.Rows.{pins, sending_slots}
 use Rattle.blob_store.specs.Seen.{parts_of}
-use Rattle.blob_store.specs.Stored.{row_weights, IsInMemory, IsMemory}
+use Rattle.blob_store.specs.Stored.{row_weights, IsHeld, IsInMemory, IsMemory, IsOfJob}
 use Rattle.blob_store.specs.Whole.{Whole}
 use Rattle.blob_store.specs.declared.building.laying.Laid.{Laid}
 use Rattle.blob_store.specs.declared.parts.Parts.{Parts}
@@ -96,6 +103,40 @@ unused_past shares homes piece (used ∷ order) past all = (λ i. other i || is_
 
     other : (piece == used.0) ≡ false
     other = let below = within (slice_get homes used.0) refl all.0 in grind (arith, nat_tests)
+
+-- nor has the job in flight such a piece
+unmoved_past : (old : Parts) → Whole old → (piece : ℕ) → length old.homes ≤ piece → (list : List Held)
+    → AllByRecursion (IsOfJob old.shares (source_of old.pages.job)) list → list_any (λ (held : Held). held.piece.0 == piece) list ≡ false
+unmoved_past old whole piece past [] all = refl
+unmoved_past old whole piece past (held ∷ list) all =
+    (λ i. other i || list_any (λ (one : Held). one.piece.0 == piece) list) ∙ unmoved_past old whole piece past list all.1
+  where
+    in_memory : (found : Option Item) → IsSomeAnd found (IsMemoryOf held) → IfSome found (IsHeld old.homes old.pages.pages held.slot)
+        → held.piece.0 < length old.homes
+    in_memory None is at = absurd is
+    in_memory (Some (Memory one bytes)) is at =
+        subst (λ (number : PieceNo). number.0 < length old.homes) is.0 (slice_get_within old.homes one.0 held.slot at.home)
+    in_memory (Some (Paged one page off len)) is at = absurd is
+    in_memory (Some (Reserved one len)) is at = absurd is
+    in_memory (Some (File file stamp off len)) is at = absurd is
+    in_memory (Some (Range handle off len)) is at = absurd is
+
+    in_page : (page : PageNo) (found : Option Item) → IsSomeAnd found (IsPagedOf page held) → IfSome found (IsHeld old.homes old.pages.pages held.slot)
+        → held.piece.0 < length old.homes
+    in_page page None is at = absurd is
+    in_page page (Some (Memory one bytes)) is at = absurd is
+    in_page page (Some (Paged one number off len)) is at =
+        subst (λ (number : PieceNo). number.0 < length old.homes) is.0 (slice_get_within old.homes one.0 held.slot at.home)
+    in_page page (Some (Reserved one len)) is at = absurd is
+    in_page page (Some (File file stamp off len)) is at = absurd is
+    in_page page (Some (Range handle off len)) is at = absurd is
+
+    below : (source : Option PageNo) → IsOfJob old.shares source held → held.piece.0 < length old.homes
+    below None is = in_memory (item_at old.shares held.slot) is (whole.stored.items held.slot)
+    below (Some page) is = in_page page (item_at old.shares held.slot) is (whole.stored.items held.slot)
+
+    other : (held.piece.0 == piece) ≡ false
+    other = let less = below (source_of old.pages.job) all.0 in grind (arith, nat_tests)
 
 module _ (renderer : RendererId) (name : ℕ) (kind : List ℕ) (plan : Plan) (line : List Part) (old now : Parts) (laid : Laid)
     (came : Came plan line old laid now.shares) where
@@ -207,7 +248,10 @@ module _ (renderer : RendererId) (name : ℕ) (kind : List ℕ) (plan : Plan) (l
     awaited = record {
       comes = comes_so;
       owned = λ pending. own_found page (first_piece old) laid.ranges line;
-      unused = λ pending piece past within. unused_past old.shares old.homes piece old.recent past whole.stored.order;
+      unused = λ pending piece past within. (
+        unused_past old.shares old.homes piece old.recent past whole.stored.order,
+        unmoved_past old whole piece past (left_of old.pages.job) whole.stored.job,
+      );
     };
     known = (can.fits, steps_known old.registry page (first_piece old) laid.ranges line can.there);
     weighed =

@@ -75,7 +75,7 @@ module _ (page : ℕ) (book : Book) (shares : List (Option Share)) (rows : List 
   sent : AreSent book.entries rows
   sent number = by (slice_get rows number) (entry_at book.entries number) (blobs.awaited number)
     where
-      by : (row : Option Row) (held : Option Entry) → IfSome row (IsAwaited page order held) → IfSome row (IsSent held)
+      by : (row : Option Row) (held : Option Entry) → IfSome row (IsAwaited page order files.job held) → IfSome row (IsSent held)
       by None held is = tt
       by (Some row) None is = is
       by (Some row) (Some entry) is = tt

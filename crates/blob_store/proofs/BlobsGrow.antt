@@ -188,15 +188,15 @@ module _ (new : NewBlob) (renderer : ℕ) (old now : Parts) (grows : Grows new r
       (λ number. if_so (λ (name : ℕ). number_of name old.registry.names ≡ Some number) (λ (name : ℕ). number_of name names ≡ Some number)
       (slice_get old.registry.names number) (λ name at is. number_kept name old.registry.names (new.name ∷ []) number is) (blobs.names number)) last_number
 
-  row_awaited : (number : ℕ) → IfSome (slice_get rows number) (IsAwaited old.limits.page old.recent (entry_at entries number))
-  row_awaited = each_more (λ (number : ℕ). IsAwaited old.limits.page old.recent (entry_at entries number)) old.rows new.row
-      (λ number. if_so (IsAwaited old.limits.page old.recent (entry_at old.registry.entries number))
-      (IsAwaited old.limits.page old.recent (entry_at entries number)) (slice_get old.rows number)
+  row_awaited : (number : ℕ) → IfSome (slice_get rows number) (IsAwaited old.limits.page old.recent old.pages.job (entry_at entries number))
+  row_awaited = each_more (λ (number : ℕ). IsAwaited old.limits.page old.recent old.pages.job (entry_at entries number)) old.rows new.row
+      (λ number. if_so (IsAwaited old.limits.page old.recent old.pages.job (entry_at old.registry.entries number))
+      (IsAwaited old.limits.page old.recent old.pages.job (entry_at entries number)) (slice_get old.rows number)
       (λ row at is. let within = slice_get_within old.rows number row at in
       let many = blobs.each_row in
-      subst (λ (held : Option Entry). IsAwaited old.limits.page old.recent held row)
+      subst (λ (held : Option Entry). IsAwaited old.limits.page old.recent old.pages.job held row)
       (sym (get_or_append_left old.registry.entries (Some new.entry ∷ []) None number (omega (arith, within, many, sized)))) is) (blobs.awaited number))
-      (subst (λ (held : Option Entry). IsAwaited old.limits.page old.recent held new.row) (sym at_last) fits.awaited)
+      (subst (λ (held : Option Entry). IsAwaited old.limits.page old.recent old.pages.job held new.row) (sym at_last) fits.awaited)
     where
       at_last : entry_at entries (length old.rows) ≡ Some new.entry
       at_last = ap (λ (n : ℕ). entry_at entries n) (blobs.each_row ∙ sized) ∙ get_or-append_seam old.registry.entries (Some new.entry) [] None

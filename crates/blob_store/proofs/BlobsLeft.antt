@@ -6,6 +6,7 @@ use Rattle.std.specs.List.{list_any, AllByRecursion}
 use Rattle.std.specs.Option.{option_map, option_map_or}
 use Rattle.std.proofs.lemmas.Bool.{eq-eqb}
 use Rattle.std.proofs.lemmas.Option.{slice_get_within, slice_get-get_or}
+use Rattle.blob_words.specs.declared.number.PieceNo.{PieceNo}
 use Rattle.blob_words.specs.declared.status.Status.{Status}
 use Rattle.blob_words.specs.declared.status.Status.TheVariants as statuses
 use Rattle.item_shares.specs.Shares.{item_at}
@@ -25,17 +26,20 @@ use Rattle.blob_entries.specs.declared.entry.Entry.{Entry}
 use Rattle.blob_entries.proofs.Counting.{on_append, on_cons}
 use Rattle.blob_entries.proofs.Holdings.{in_at, on_held}
 use Rattle.blob_registry.specs.Sweeps.{dropped, swept}
-use Rattle.page_files.specs.Files.{Files}
+use Rattle.page_files.specs.Files.{struck, Files}
+use Rattle.page_files.specs.declared.held.Held.{Held}
+use Rattle.page_files.specs.declared.job.Job.{Job}
 use Rattle.quota_queue.specs.Queue.{without as unqueued, Queue}
 use Rattle.recent_items.specs.Recent.{is_there}
-use Rattle.blob_model.proofs.Lists.{false_true}
+use Rattle.blob_model.proofs.Lists.{false_true, none_filtered}
 use Rattle.store_laws.specs.Items.{item_length}
-use Rattle.store_laws.specs.LetGo.{left_by}
+use Rattle.store_laws.specs.LetGo.{left_by, let_go_by}
+use Rattle.store_laws.specs.Pageable.{is_flying}
 use Rattle.store_laws.specs.PartLaws.{own_steps, piece_lengths}
 use Rattle.blob_store.specs.declared.row.Row.{Row}
 use Rattle.blob_store.specs.declared.row.Sending.{Sending}
 use Rattle.blob_store.specs.declared.row.Sending.TheVariants.{Settled, Waiting, Gathering, Writing}
-use Rattle.blob_store.specs.Blobs.{AreKnown, AreUnused, AreWeighed, Awaits, Blobs, Charged, Comes, IsAwaited, IsThere, Views}
+use Rattle.blob_store.specs.Blobs.{AreKnown, AreUnused, AreWeighed, Awaits, Blobs, Charged, Comes, IsAwaited, IsThere, IsUnused, Views}
 use Rattle.blob_store.specs.Dropping.{settled_by}
 use Rattle.blob_store.specs.Stored.{row_weights}
 use Rattle.blob_store.proofs.QueueLeft.{queue_rows}
@@ -44,27 +48,39 @@ use Rattle.blob_store.proofs.SweptEntries.{gone_told, left_at}
 
 -- ---- a piece that wasn't used is not used when items go
 
-not_there : (piece : ℕ) (test : ℕ × ℕ → Bool) (order : List (ℕ × ℕ)) → is_there piece order ≡ false → is_there piece (filter test order) ≡ false
-not_there piece test [] none = refl
-not_there piece test (used ∷ order) none = go (nat_eq piece used.0) refl none (test used) (not_there piece test order)
-  where
-    go : (a : Bool) → nat_eq piece used.0 ≡ a → (a || is_there piece order) ≡ false → (b : Bool)
-        → (is_there piece order ≡ false → is_there piece (filter test order) ≡ false)
-        → is_there piece (cond {A = List (ℕ × ℕ)} b (used ∷ filter test order) (filter test order)) ≡ false
-    go true at none b rest = absurd (false_true (sym none))
-    go false at none true rest = ap (λ (a : Bool). a || is_there piece (filter test order)) at ∙ rest none
-    go false at none false rest = rest none
-
 unused_item : (piece : ℕ) (item : Item) (order : List (ℕ × ℕ)) → is_there piece order ≡ false → is_there piece (left_by order item) ≡ false
-unused_item piece (Memory one bytes) order none = not_there piece (λ (used : ℕ × ℕ). not (nat_eq one.0 used.0)) order none
-unused_item piece (Paged one page off len) order none = not_there piece (λ (used : ℕ × ℕ). not (nat_eq one.0 used.0)) order none
-unused_item piece (Reserved one len) order none = not_there piece (λ (used : ℕ × ℕ). not (nat_eq one.0 used.0)) order none
+unused_item piece (Memory one bytes) order none =
+    none_filtered (λ (used : ℕ × ℕ). nat_eq piece used.0) (λ (used : ℕ × ℕ). not (nat_eq one.0 used.0)) order none
+unused_item piece (Paged one page off len) order none =
+    none_filtered (λ (used : ℕ × ℕ). nat_eq piece used.0) (λ (used : ℕ × ℕ). not (nat_eq one.0 used.0)) order none
+unused_item piece (Reserved one len) order none =
+    none_filtered (λ (used : ℕ × ℕ). nat_eq piece used.0) (λ (used : ℕ × ℕ). not (nat_eq one.0 used.0)) order none
 unused_item piece (File name stamp off len) order none = none
 unused_item piece (Range slot off len) order none = none
 
 unused_all : (piece : ℕ) (freed : List Item) (order : List (ℕ × ℕ)) → is_there piece order ≡ false → is_there piece (fold left_by order freed) ≡ false
 unused_all piece [] order none = none
 unused_all piece (item ∷ freed) order none = unused_all piece freed (left_by order item) (unused_item piece item order none)
+
+flying_struck : (piece : ℕ) (out : PieceNo) (job : Option Job) → is_flying piece job ≡ false → is_flying piece (option_map (struck out) job) ≡ false
+flying_struck piece out None none = none
+flying_struck piece out (Some job) none =
+    none_filtered (λ (held : Held). held.piece.0 == piece) (λ (held : Held). not (nat_eq out.0 held.piece.0)) job.pieces none
+
+flying_item : (piece : ℕ) (item : Item) (files : Files) → is_flying piece files.job ≡ false → is_flying piece (let_go_by files item).job ≡ false
+flying_item piece (Memory one bytes) files none = flying_struck piece one files.job none
+flying_item piece (Paged one page off len) files none = flying_struck piece one files.job none
+flying_item piece (Reserved one len) files none = flying_struck piece one files.job none
+flying_item piece (File name stamp off len) files none = none
+flying_item piece (Range slot off len) files none = none
+
+flying_all : (piece : ℕ) (freed : List Item) (files : Files) → is_flying piece files.job ≡ false → is_flying piece (fold let_go_by files freed).job ≡ false
+flying_all piece [] files none = none
+flying_all piece (item ∷ freed) files none = flying_all piece freed (let_go_by files item) (flying_item piece item files none)
+
+unused_still : (piece : ℕ) (freed : List Item) (order : List (ℕ × ℕ)) (files : Files) → IsUnused order files.job piece
+    → IsUnused (fold left_by order freed) (fold let_go_by files freed).job piece
+unused_still piece freed order files none = (unused_all piece freed order none.0, flying_all piece freed files none.1)
 
 -- ---- statuses
 
@@ -131,6 +147,9 @@ module _ (page : ℕ) (book : Book) (shares later : List (Option Share)) (rows :
   abbrev now_order : List (ℕ × ℕ)
   now_order = fold left_by order freed
 
+  abbrev now_job : Option Job
+  now_job = (fold let_go_by files freed).job
+
   abbrev is_told : ℕ → Bool
   is_told number = list_any (is_numbered book.names number) told
 
@@ -180,9 +199,9 @@ module _ (page : ℕ) (book : Book) (shares later : List (Option Share)) (rows :
 
     -- ---- rows
 
-    unused_left : (row : Row) (b : Bool) → AreUnused page order row → AreUnused page now_order (settled_if b row)
-    unused_left row true unused piece from to = unused_all piece freed order (unused piece from to)
-    unused_left row false unused piece from to = unused_all piece freed order (unused piece from to)
+    unused_left : (row : Row) (b : Bool) → AreUnused page order files.job row → AreUnused page now_order now_job (settled_if b row)
+    unused_left row true unused piece from to = unused_still piece freed order files (unused piece from to)
+    unused_left row false unused piece from to = unused_still piece freed order files (unused piece from to)
 
     owned_if : (row : Row) (b : Bool) (entry : Entry)
         → filter is_own entry.recipe ≡ own_steps row.first (flat_map (piece_lengths page) row.lengths)
@@ -194,15 +213,15 @@ module _ (page : ℕ) (book : Book) (shares later : List (Option Share)) (rows :
     comes_if row true status own is = tt
     comes_if row false status own is = is
 
-    awaits_same : (row : Row) (b : Bool) (entry : Entry) → Awaits page order row entry → Awaits page now_order (settled_if b row) entry
+    awaits_same : (row : Row) (b : Bool) (entry : Entry) → Awaits page order files.job row entry → Awaits page now_order now_job (settled_if b row) entry
     awaits_same row b entry is = record {
       comes = comes_if row b entry.status entry.own is.comes;
       owned = λ pending. owned_if row b entry (is.owned pending);
       unused = λ pending. unused_left row b (is.unused pending);
     }
 
-    awaits_broken : (row : Row) (b : Bool) (entry : Entry) → is_broken entry.status ≡ true → Awaits page order row entry
-        → Awaits page now_order (settled_if b row) (record entry { recipe = []; own = None; views = [] })
+    awaits_broken : (row : Row) (b : Bool) (entry : Entry) → is_broken entry.status ≡ true → Awaits page order files.job row entry
+        → Awaits page now_order now_job (settled_if b row) (record entry { recipe = []; own = None; views = [] })
     awaits_broken row b entry broken is = record {
       comes = comes_if row b entry.status None (by (is_pending entry.status) refl);
       owned = λ pending. absurd (false_true (unbroken entry.status pending broken));
@@ -215,21 +234,21 @@ module _ (page : ℕ) (book : Book) (shares later : List (Option Share)) (rows :
             subst (λ (sending : Sending). Comes entry.status None sending) (sym (comes_pending entry.status entry.own row.sending is.comes ended)) tt
 
     awaited_one : (number : ℕ) (row : Row) → number < length book.names → (was : Option Entry) → entry_at book.entries number ≡ was → (b : Bool)
-        → entry_at now_book.entries number ≡ left b was → IsAwaited page order was row
-        → IsAwaited page now_order (left b was) (settled_if (is_told number) row)
+        → entry_at now_book.entries number ≡ left b was → IsAwaited page order files.job was row
+        → IsAwaited page now_order now_job (left b was) (settled_if (is_told number) row)
     awaited_one number row less None at b now is = settled_none b
       where
         settled : (c : Bool) → (settled_if c row).sending ≡ Settled
         settled true = refl
         settled false = is
 
-        settled_none : (c : Bool) → IsAwaited page now_order (left c None) (settled_if (is_told number) row)
+        settled_none : (c : Bool) → IsAwaited page now_order now_job (left c None) (settled_if (is_told number) row)
         settled_none true = settled (is_told number)
         settled_none false = settled (is_told number)
     awaited_one number row less (Some entry) at true now is = go (is_broken entry.status) refl
       where
         go : (c : Bool) → is_broken entry.status ≡ c
-            → Awaits page now_order (settled_if (is_told number) row) (cond c (record entry { recipe = []; own = None; views = [] }) entry)
+            → Awaits page now_order now_job (settled_if (is_told number) row) (cond c (record entry { recipe = []; own = None; views = [] }) entry)
         go true broken = awaits_broken row (is_told number) entry broken is
         go false broken = awaits_same row (is_told number) entry is
     awaited_one number row less (Some entry) at false now is = go (is_pending entry.status) refl
@@ -242,16 +261,16 @@ module _ (page : ℕ) (book : Book) (shares later : List (Option Share)) (rows :
         go true pending = ap (λ (c : Bool). (settled_if c row).sending) (told_there number entry less at pending now)
         go false ended = kept_settled (is_told number) (comes_pending entry.status entry.own row.sending is.comes ended)
 
-    awaited_left : (number : ℕ) → IfSome (slice_get now_rows number) (IsAwaited page now_order (entry_at now_book.entries number))
+    awaited_left : (number : ℕ) → IfSome (slice_get now_rows number) (IsAwaited page now_order now_job (entry_at now_book.entries number))
     awaited_left number =
         let one = left_at book.names book.entries 0 number in
-        subst (λ (now : Option Entry). IfSome (slice_get now_rows number) (IsAwaited page now_order now)) (sym one.is)
-        (subst (λ (found : Option Row). IfSome found (IsAwaited page now_order (left one.lives (entry_at book.entries number))))
+        subst (λ (now : Option Entry). IfSome (slice_get now_rows number) (IsAwaited page now_order now_job now)) (sym one.is)
+        (subst (λ (found : Option Row). IfSome found (IsAwaited page now_order now_job (left one.lives (entry_at book.entries number))))
         (sym (get_all book.names told rows number)) (by one.lives one.is (slice_get rows number) refl (blobs.awaited number)))
       where
         by : (b : Bool) → entry_at now_book.entries number ≡ left b (entry_at book.entries number) → (found : Option Row) → slice_get rows number ≡ found
-            → IfSome found (IsAwaited page order (entry_at book.entries number))
-            → IfSome (option_map (settled_if (is_told number)) found) (IsAwaited page now_order (left b (entry_at book.entries number)))
+            → IfSome found (IsAwaited page order files.job (entry_at book.entries number))
+            → IfSome (option_map (settled_if (is_told number)) found) (IsAwaited page now_order now_job (left b (entry_at book.entries number)))
         by b now None at is = tt
         by b now (Some row) at is =
             awaited_one number row (subst (λ (n : ℕ). number < n) blobs.each_row (slice_get_within rows number row at)) (entry_at book.entries number) refl
@@ -298,14 +317,17 @@ module _ (page : ℕ) (book : Book) (shares later : List (Option Share)) (rows :
         subst (λ (now : Option Entry). IfSome now (AreKnown book.names)) (sym one.is)
         (known_one (entry_at book.entries number) one.lives (blobs.known number))
 
-    pub blobs_left : queue.waiting ≡ fold (λ (list : List (ℕ × ℕ)) (name : ℕ). unqueued name list) quota.waiting told
+    pub blobs_left : now_files.job ≡ now_job
+        → queue.waiting ≡ fold (λ (list : List (ℕ × ℕ)) (name : ℕ). unqueued name list) quota.waiting told
         → Blobs page now_book later now_rows queue now_files now_order now_held
-    blobs_left waits = record {
+    blobs_left flies waits = record {
       charged = charged;
       views = views_left;
       names = blobs.names;
       each_row = length_all book.names told rows ∙ blobs.each_row;
-      awaited = awaited_left;
+      awaited = λ number.
+          subst (λ (job : Option Job). IfSome (slice_get now_rows number) (IsAwaited page now_order job (entry_at now_book.entries number)))
+          (sym flies) (awaited_left number);
       waits = waits ∙ ap (λ (start : List (ℕ × ℕ)). fold (λ (list : List (ℕ × ℕ)) (name : ℕ). unqueued name list) start told) blobs.waits
           ∙ queue_rows book.names blobs.names told rows;
       known = known_left;

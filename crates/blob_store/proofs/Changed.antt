@@ -10,6 +10,7 @@ use Rattle.blob_entries.specs.declared.entry.Entry.{Entry}
 use Rattle.blob_entries.proofs.Holdings.{in_cons, on_held}
 use Rattle.blob_entries.proofs.Numbers.{name_there}
 use Rattle.blob_entries.proofs.Soundness.{at_other, same_or}
+use Rattle.page_files.specs.declared.job.Job.{Job}
 use Rattle.blob_store.specs.declared.row.Row.{Row}
 use Rattle.blob_store.specs.Blobs.{Awaits, IsAwaited}
 
@@ -48,14 +49,14 @@ still_changed P change keeps entries number other kept =
     (λ apart. subst P (sym (at_other entries number other (option_map change (entry_at entries number)) apart)) kept)
 
 -- bytes come for blobs that stand alone, as before
-pub awaited_changed : (page : ℕ) (order : List (ℕ × ℕ)) (change : Entry → Entry)
-    → ((row : Row) (entry : Entry) → Awaits page order row entry → Awaits page order row (change entry)) → (entries : Entries) (number other : ℕ)
-    (row : Option Row) → IfSome row (IsAwaited page order (entry_at entries other))
-    → IfSome row (IsAwaited page order (entry_at (set entries number (option_map change (entry_at entries number))) other))
-awaited_changed page order change keeps entries number other row is =
-    still_changed (λ (held : Option Entry). IfSome row (IsAwaited page order held)) change (λ held. by held row) entries number other is
+pub awaited_changed : (page : ℕ) (order : List (ℕ × ℕ)) (job : Option Job) (change : Entry → Entry)
+    → ((row : Row) (entry : Entry) → Awaits page order job row entry → Awaits page order job row (change entry)) → (entries : Entries) (number other : ℕ)
+    (row : Option Row) → IfSome row (IsAwaited page order job (entry_at entries other))
+    → IfSome row (IsAwaited page order job (entry_at (set entries number (option_map change (entry_at entries number))) other))
+awaited_changed page order job change keeps entries number other row is =
+    still_changed (λ (held : Option Entry). IfSome row (IsAwaited page order job held)) change (λ held. by held row) entries number other is
   where
-    by : (held : Option Entry) (row : Option Row) → IfSome row (IsAwaited page order held) → IfSome row (IsAwaited page order (option_map change held))
+    by : (held : Option Entry) (row : Option Row) → IfSome row (IsAwaited page order job held) → IfSome row (IsAwaited page order job (option_map change held))
     by None row is = is
     by (Some entry) None is = tt
     by (Some entry) (Some row) is = keeps row entry is

@@ -1,6 +1,6 @@
 -- Lines that end the job in flight are heard.
 use Rattle.std.proofs.Common.{◌≡◌, true, false, [], ◌∷◌, Option, None, Some, cond, ap, refl, ◌∙◌, inl}
-use Rattle.std.specs.Prelude.{List}
+use Rattle.std.specs.Prelude.{slice_get, IfSome, List}
 use Rattle.blob_words.specs.declared.number.JobNo.{JobNo}
 use Rattle.session_script.specs.declared.event.Event.TheVariants as events
 use Rattle.answer_text.specs.declared.answer.Answer.TheVariants as answers
@@ -9,6 +9,8 @@ use Rattle.answer_text.specs.declared.refusal.Refusal.{Refusal}
 use Rattle.answer_text.specs.declared.refusal.Refusal.TheVariants as refusals
 use Rattle.data_handles.specs.Table.{Table}
 use Rattle.page_disk.specs.declared.change.Change.{Change}
+use Rattle.blob_entries.specs.Book.{entry_at}
+use Rattle.blob_entries.specs.declared.entry.Entry.{Entry}
 use Rattle.page_files.specs.Files.{is_in_flight, turned_off}
 use Rattle.blob_model.specs.History.{history_from, start, History}
 use Rattle.blob_model.specs.Legal.{IsLegalFrom}
@@ -20,6 +22,8 @@ use Rattle.store_laws.proofs.LineRefusals.{own_accepted}
 use Rattle.store_laws.proofs.Losing.{job_lines_stand}
 use Rattle.store_laws.proofs.Unmarked.{none_marked}
 use Rattle.blob_store.specs.declared.parts.Parts.{Parts}
+use Rattle.blob_store.specs.declared.row.Row.{Row}
+use Rattle.blob_store.specs.Blobs.{IsAwaited}
 use Rattle.blob_store.specs.Says.{scene, IsHeard}
 use Rattle.blob_store.specs.Seen.{parts_of}
 use Rattle.blob_store.specs.Whole.{Whole}
@@ -54,13 +58,23 @@ whole_lost parts whole = record {
     views = whole.blobs.views;
     names = whole.blobs.names;
     each_row = whole.blobs.each_row;
-    awaited = whole.blobs.awaited;
+    awaited = λ number. still (slice_get parts.rows number) (entry_at parts.registry.entries number) (whole.blobs.awaited number);
     waits = whole.blobs.waits;
     known = whole.blobs.known;
     weighed = whole.blobs.weighed;
   };
   holders = whole.holders;
 }
+  where
+    still : (row : Option Row) (held : Option Entry) → IfSome row (IsAwaited parts.limits.page parts.recent parts.pages.job held)
+        → IfSome row (IsAwaited parts.limits.page parts.recent None held)
+    still None held is = tt
+    still (Some row) None is = is
+    still (Some row) (Some entry) is = record {
+      comes = is.comes;
+      owned = is.owned;
+      unused = λ pending piece from to. ((is.unused pending piece from to).0, refl);
+    }
 
 module _ (s : Session) (groups : List Group) (parts : Parts) (told : Option (List Change)) (table : Table) (legal : IsLegalFrom s start groups)
     (stands : Stands s (history_from start groups) (parts_of parts) told table) where

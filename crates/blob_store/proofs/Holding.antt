@@ -106,7 +106,7 @@ module _ (change : Entry → Entry) (reroots : Reroots change) where
     views = λ other. held_changed (Views shares) change (views_still shares) book.entries number other (blobs.views other);
     names = blobs.names;
     each_row = blobs.each_row;
-    awaited = λ other. awaited_changed page order change awaits_still book.entries number other (slice_get rows other) (blobs.awaited other);
+    awaited = λ other. awaited_changed page order files.job change awaits_still book.entries number other (slice_get rows other) (blobs.awaited other);
     waits = blobs.waits;
     known = λ other. held_changed (AreKnown book.names) change
         (λ entry is. (
@@ -119,7 +119,7 @@ module _ (change : Entry → Entry) (reroots : Reroots change) where
         change (λ entry is. rw (reroots.views entry, reroots.recipe entry) is) book.entries number other (blobs.weighed other);
   }
     where
-      awaits_still : (row : Row) (entry : Entry) → Awaits page order row entry → Awaits page order row (change entry)
+      awaits_still : (row : Row) (entry : Entry) → Awaits page order files.job row entry → Awaits page order files.job row (change entry)
       awaits_still row entry is = record {
         comes = rw (reroots.status entry, reroots.own entry) is.comes;
         owned = rw (reroots.status entry, reroots.recipe entry) is.owned;

@@ -50,6 +50,9 @@ pub mod Grown
 pub mod Arriving
 pub mod OwnPieces
 pub mod HeardJobs
+pub mod Using
+pub mod Lasting
+pub mod Ended
 pub mod Claiming
 pub mod Entering
 pub mod Laying

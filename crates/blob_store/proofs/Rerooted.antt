@@ -13,6 +13,7 @@ use Rattle.blob_entries.specs.declared.entry.Entry.{Entry}
 use Rattle.blob_entries.proofs.Holdings.{in_cons, on_held}
 use Rattle.item_shares.specs.declared.shares.Share.{Share}
 use Rattle.page_files.specs.Files.{Files}
+use Rattle.page_files.specs.declared.job.Job.{Job}
 use Rattle.quota_queue.specs.Queue.{Queue}
 use Rattle.renderer_table.specs.Counted.{origin_at}
 use Rattle.renderer_table.specs.Table.{Table, was_spawned}
@@ -61,16 +62,16 @@ module _ (P : Entry → Type 0) (keeps : (entry : Entry) (roots : ℕ) → P ent
       let equal : with_roots 0 one ≡ with_roots 0 other = cc in
       keeps (with_roots 0 one) one.roots (subst P (sym equal) (keeps other 0 is))
 
-module _ (page : ℕ) (order : List (ℕ × ℕ)) where
-  awaited_same : (new old : Option Entry) (row : Row) → bare new ≡ bare old → IsAwaited page order old row → IsAwaited page order new row
+module _ (page : ℕ) (order : List (ℕ × ℕ)) (job : Option Job) where
+  awaited_same : (new old : Option Entry) (row : Row) → bare new ≡ bare old → IsAwaited page order job old row → IsAwaited page order job new row
   awaited_same None None row same is = is
   awaited_same None (Some other) row same is = absurd (cc same)
   awaited_same (Some one) None row same is = absurd (cc same)
   awaited_same (Some one) (Some other) row same is =
-      if_same (Awaits page order row) (λ entry roots one. record { comes = one.comes; owned = one.owned; unused = one.unused }) (Some one) (Some other) same is
+      if_same (Awaits page order job row) (λ entry roots one. record { comes = one.comes; owned = one.owned; unused = one.unused }) (Some one) (Some other) same is
 
-  if_awaited : (new old : Option Entry) (row : Option Row) → bare new ≡ bare old → IfSome row (IsAwaited page order old)
-      → IfSome row (IsAwaited page order new)
+  if_awaited : (new old : Option Entry) (row : Option Row) → bare new ≡ bare old → IfSome row (IsAwaited page order job old)
+      → IfSome row (IsAwaited page order job new)
   if_awaited new old None same is = tt
   if_awaited new old (Some row) same is = awaited_same new old row same is
 
@@ -118,7 +119,7 @@ blobs_same {page} {shares} {rows} {quota} {files} {order} old new same blobs = r
   names = λ number. subst (λ (names : List ℕ). IfSome (slice_get names number) (λ (name : ℕ). number_of name names ≡ Some number)) (sym same.names)
       (blobs.names number);
   each_row = blobs.each_row ∙ ap (λ (names : List ℕ). length names) (sym same.names);
-  awaited = λ number. if_awaited page order (entry_at new.entries number) (entry_at old.entries number) (slice_get rows number)
+  awaited = λ number. if_awaited page order files.job (entry_at new.entries number) (entry_at old.entries number) (slice_get rows number)
       (same_at new.entries old.entries same.entries number) (blobs.awaited number);
   waits = blobs.waits ∙ ap (λ (names : List ℕ). waiting names rows) (sym same.names);
   known = λ number. subst (λ (names : List ℕ). IfSome (entry_at new.entries number) (AreKnown names)) (sym same.names)

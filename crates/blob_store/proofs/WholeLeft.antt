@@ -141,6 +141,6 @@ module _ (old new : Parts) (names : List ℕ) (freed : List Item) (whole : Whole
             (λ slot some. goes.kept slot (let count = charged_now.counts slot in omega (arith, count, some)))
             whole.blobs.charged.held_so charged_now.held_so refl;
         blobs = blobs_left old.limits.page old.registry old.shares new.shares old.rows old.quota now.quota old.pages now.pages old.recent old.held new.held
-            all_freed whole.blobs goes.kept charged_now refl;
+            all_freed whole.blobs goes.kept charged_now refl refl;
         holders = holders_left old.registry old.renderers old.urls old.readers old.lines whole.holders;
       })

@@ -1,5 +1,6 @@
 -- What the entries of a store keep with the items that they view, and with the rows beside them. Own.
-use Rattle.std.specs.Prelude.{ℕ, ◌≡◌, ◌+◌, ◌<◌, ◌≤◌, ◌^◌, false, true, List, filter, flat_map, length, slice_get, slice_index, Option, None, Some, IfSome, IsSome, IsSomeAnd}
+use Rattle.std.specs.Prelude.{ℕ, ◌≡◌, ◌+◌, ◌<◌, ◌≤◌, ◌^◌, false, true, List, filter}
+use Rattle.std.specs.Prelude.{flat_map, length, slice_get, slice_index, Option, None, Some, IfSome, IsSome, IsSomeAnd}
 use Rattle.std.specs.List.{AllByRecursion}
 use Rattle.blob_words.specs.declared.status.Status.{Status}
 use Rattle.blob_words.specs.declared.status.Status.TheVariants.{PendingQuota, PendingTransport}
@@ -20,9 +21,11 @@ use Rattle.blob_entries.specs.declared.entry.Entry.{Entry}
 use Rattle.blob_entries.specs.declared.step.Step.{Step}
 use Rattle.blob_entries.specs.declared.step.Step.TheVariants.{Own, Fixed, Source}
 use Rattle.page_files.specs.Files.{Files}
+use Rattle.page_files.specs.declared.job.Job.{Job}
 use Rattle.quota_queue.specs.Queue.{Queue}
 use Rattle.recent_items.specs.Recent.{is_there}
 use Rattle.store_laws.specs.Items.{item_length}
+use Rattle.store_laws.specs.Pageable.{is_flying}
 use Rattle.store_laws.specs.PartLaws.{own_steps, piece_lengths}
 use Rattle.store_laws.specs.Weights.{memory_weight, piece_weight, reserved_weight}
 use Rattle.blob_store.specs.Rows.{bytes_gathered, pieces_gathered, pieces_of_row, pins, waiting}
@@ -81,20 +84,24 @@ Comes status own Waiting = status ≡ PendingQuota
 Comes status own (Gathering segments) = (status ≡ PendingTransport) × (own ≡ None)
 Comes status own (Writing slots came) = (status ≡ PendingTransport) × (own ≡ None)
 
--- the pieces of a blob are not in the order of use
-abbrev pub AreUnused : ℕ → List (ℕ × ℕ) → Row → Type 0
-AreUnused page order row = (piece : ℕ) → row.first ≤ piece → piece < row.first + pieces_of_row page row → is_there piece order ≡ false
+-- a piece is neither in the order of use nor in the job in flight
+abbrev pub IsUnused : List (ℕ × ℕ) → Option Job → ℕ → Type 0
+IsUnused order job piece = (is_there piece order ≡ false) × (is_flying piece job ≡ false)
+
+-- the same of the pieces of a blob
+abbrev pub AreUnused : ℕ → List (ℕ × ℕ) → Option Job → Row → Type 0
+AreUnused page order job row = (piece : ℕ) → row.first ≤ piece → piece < row.first + pieces_of_row page row → IsUnused order job piece
 
 -- an unfinished blob has a step for each of its pieces, none of which was used yet
-pub record Awaits (page : ℕ) (order : List (ℕ × ℕ)) (row : Row) (entry : Entry) : Type 0 where
+pub record Awaits (page : ℕ) (order : List (ℕ × ℕ)) (job : Option Job) (row : Row) (entry : Entry) : Type 0 where
   pub comes : Comes entry.status entry.own row.sending
   pub owned : is_pending entry.status ≡ true → filter is_own entry.recipe ≡ own_steps row.first (flat_map (piece_lengths page) row.lengths)
-  pub unused : is_pending entry.status ≡ true → AreUnused page order row
+  pub unused : is_pending entry.status ≡ true → AreUnused page order job row
 
 -- bytes come for blobs that stand alone
-abbrev pub IsAwaited : ℕ → List (ℕ × ℕ) → Option Entry → Row → Type 0
-IsAwaited page order None row = row.sending ≡ Settled
-IsAwaited page order (Some entry) row = Awaits page order row entry
+abbrev pub IsAwaited : ℕ → List (ℕ × ℕ) → Option Job → Option Entry → Row → Type 0
+IsAwaited page order job None row = row.sending ≡ Settled
+IsAwaited page order job (Some entry) row = Awaits page order job row entry
 
 -- ---- all of them
 
@@ -105,7 +112,7 @@ pub record Blobs (page : ℕ) (book : Book) (shares : List (Option Share)) (rows
   -- each blob has a name of its own, and a row
   pub names : (number : ℕ) → IfSome (slice_get book.names number) (λ (name : ℕ). number_of name book.names ≡ Some number)
   pub each_row : length rows ≡ length book.names
-  pub awaited : (number : ℕ) → IfSome (slice_get rows number) (IsAwaited page order (entry_at book.entries number))
+  pub awaited : (number : ℕ) → IfSome (slice_get rows number) (IsAwaited page order files.job (entry_at book.entries number))
   pub waits : quota.waiting ≡ waiting book.names rows
   pub known : (number : ℕ) → IfSome (entry_at book.entries number) (AreKnown book.names)
   pub weighed : AreWeighed book (row_weights rows)

@@ -16,6 +16,7 @@ pub mod Openings
 pub mod Departing
 pub mod Dropping
 pub mod Unheld
+pub mod Passing
 pub mod NewItems
 pub mod Putting
 pub mod Arriving

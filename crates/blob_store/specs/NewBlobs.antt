@@ -77,7 +77,7 @@ pub record EntryFits (new : NewBlob) (old now : Parts) : Type 0 where
   pub viewed : (slot : ℕ) → views_on slot (held_views new.entry) + pins slot (new.row ∷ []) ≡ views_on slot new.views
   pub apart : (slot : ℕ) → 0 < views_on slot (held_views new.entry) → pins slot (new.row ∷ []) ≡ 0
   pub views : Views now.shares new.entry
-  pub awaited : Awaits old.limits.page old.recent new.row new.entry
+  pub awaited : Awaits old.limits.page old.recent old.pages.job new.row new.entry
   pub known : AreKnown old.registry.names new.entry
   pub weighed : length (held_views new.entry) + cut_weight old.registry.names (row_weights old.rows) new.entry.recipe ≤ new.row.weight
 

@@ -1,4 +1,5 @@
 //! One file a list of settling: what is owed after a line, and its answers.
 
 mod drops;
+mod endings;
 mod rows;
