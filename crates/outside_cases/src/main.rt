@@ -3,6 +3,7 @@
 //! begins a table anew is not shown. A line that names nothing of these is shown as it is.
 #![tactic(auto)]
 
+mod disks;
 mod files;
 mod folder;
 mod memory;
@@ -10,14 +11,22 @@ mod objects;
 mod outside;
 mod renderers;
 mod slots;
+mod tables;
 mod urls;
 
 use crate::outside::Outside;
+use std::io;
+
+// Takes a line of standard input.
+fn take(rt: &HostRuntime, outside: &mut Outside, line: io::Result<String>) -> anyhow::Result<()> {
+    let line = line?;
+    outside.call(rt, line.as_str())
+}
 
 fn main(rt: HostRuntime) -> anyhow::Result<()> {
     let mut outside = Outside::new(&rt)?;
     for line in rt.lines(rt.alloc()) {
-        outside.call(&rt, line?.as_str())?;
+        take(&rt, &mut outside, line)?;
     }
     Ok(())
 }

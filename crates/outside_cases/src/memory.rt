@@ -8,6 +8,7 @@ ghost use Rattle.page_disk.specs.Memory.{open_in};
 use blob_words::{Failed, PageNo};
 use case_lines::{memory_disk, number, short_number, show, show_changes, show_read, word};
 use page_disk::{Change, MemoryDisk, PageDisk, PutFault};
+use std::io;
 
 // The most bytes that are appended at once.
 const MOST: usize = 65_536;
@@ -150,40 +151,57 @@ fn remove(disk: &mut MemoryDisk, page: u32) -> Option<Result<(), Failed>>
 }
 
 // Reads into a line.
-fn show_get(rt: &HostRuntime, disk: &mut MemoryDisk, line: &str) -> anyhow::Result<()>
+fn show_get(rt: &HostRuntime, disk: &mut MemoryDisk, line: &str) -> io::Result<()>
     requires closed { open_in disk.old ≡ None }
     ensures closed { open_in disk.new ≡ None }
 {
     let mut out = [0u8; 64];
     let (bytes, _) = out.split_at_mut(short_number(line, 4).min(64) as usize);
     match get(disk, short_number(line, 2), number(line, 3), bytes) {
-        Some(answer) => show_read(rt, line, &answer, bytes)?,
-        None => show(rt, line, &"no such range")?,
+        Some(answer) => show_read(rt, line, &answer, bytes),
+        None => show(rt, line, &"no such range"),
     }
-    Ok(())
 }
 
-/// Makes a call on a disk over memory, with a page, and two parts of it, or an offset and a count
-/// of bytes.
-pub fn call(rt: &HostRuntime, disk: &mut MemoryDisk, line: &str) -> anyhow::Result<()>
+// Makes a call on a page, with two parts of it, or an offset and a count of bytes.
+fn call_on(rt: &HostRuntime, disk: &mut MemoryDisk, line: &str) -> io::Result<()>
     requires closed { open_in disk.old ≡ None }
     ensures closed { open_in disk.new ≡ None }
 {
     let page = short_number(line, 2);
     match word(line, 1) {
-        "new" => *disk = memory_disk(rt.alloc(), word(line, 2), word(line, 3))?,
         "put" => {
             let (first, second) = (word(line, 3).as_bytes(), word(line, 4).as_bytes());
-            show(rt, line, &put(disk, page, first, second))?;
+            show(rt, line, &put(disk, page, first, second))
         }
-        "begin" => {
-            let other = memory_disk(rt.alloc(), "-", "-")?;
-            show(rt, line, &begin(disk, page, number(line, 3), other))?;
-        }
-        "get" => show_get(rt, disk, line)?,
-        "remove" => show(rt, line, &remove(disk, page))?,
-        "changes" => show_changes(rt, disk.changes())?,
-        _ => show(rt, line, &"no such call")?,
+        "get" => show_get(rt, disk, line),
+        "remove" => show(rt, line, &remove(disk, page)),
+        "changes" => show_changes(rt, disk.changes()),
+        _ => show(rt, line, &"no such call"),
     }
-    Ok(())
+}
+
+// Begins the write of a page of so many bytes.
+fn show_begin(rt: &HostRuntime, disk: &mut MemoryDisk, line: &str) -> anyhow::Result<()>
+    requires closed { open_in disk.old ≡ None }
+    ensures closed { open_in disk.new ≡ None }
+{
+    let other = memory_disk(rt.alloc(), "-", "-")?;
+    let begun = begin(disk, short_number(line, 2), number(line, 3), other);
+    Ok(show(rt, line, &begun)?)
+}
+
+/// Makes a call on a disk over memory. `new` takes a new one, of the calls that fail.
+pub fn call(rt: &HostRuntime, disk: &mut MemoryDisk, line: &str) -> anyhow::Result<()>
+    requires closed { open_in disk.old ≡ None }
+    ensures closed { open_in disk.new ≡ None }
+{
+    match word(line, 1) {
+        "new" => {
+            *disk = memory_disk(rt.alloc(), word(line, 2), word(line, 3))?;
+            Ok(())
+        }
+        "begin" => show_begin(rt, disk, line),
+        _ => Ok(call_on(rt, disk, line)?),
+    }
 }

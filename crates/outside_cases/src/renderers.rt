@@ -3,6 +3,7 @@ use blob_words::{BlobName, NoMemory, Octets, Origin, RendererId};
 use case_lines::{short_number, show, word};
 use renderer_table::{PassFault, Renderers};
 use std::alloc::Global;
+use std::io;
 
 // More handles than the lines give a renderer on one blob.
 const MANY: u64 = 1_000_000;
@@ -79,43 +80,64 @@ fn empty(table: &mut Renderers, renderers: u32, each: u32) -> u32 {
     given
 }
 
-/// Makes a call on a table of renderers, with a renderer, a blob and the renderer that takes a
-/// handle; or with two counts.
-pub fn call(rt: &HostRuntime, table: &mut Renderers, line: &str) -> anyhow::Result<()> {
-    let (one, two) = (short_number(line, 2), short_number(line, 3));
-    match word(line, 1) {
-        "new" => *table = Renderers::new(rt.alloc())?,
-        "fill" => show(rt, line, &fill(rt.alloc(), table, one)?)?,
-        "deal" => show(rt, line, &deal(table, one, two)?)?,
-        "empty" => show(rt, line, &empty(table, one, two))?,
-        "first" => show(rt, line, &table.first_alive())?,
-        _ => call_on(rt, table, line)?,
-    }
-    Ok(())
+// Spawns a renderer of an origin.
+fn spawn(rt: &HostRuntime, table: &mut Renderers, line: &str) -> anyhow::Result<()> {
+    let origin = origin(rt.alloc(), word(line, 3))?;
+    let answer = table.spawn(RendererId(short_number(line, 2)), &origin);
+    Ok(show(rt, line, &answer)?)
 }
 
-// Makes a call on a renderer.
-fn call_on(rt: &HostRuntime, table: &mut Renderers, line: &str) -> anyhow::Result<()> {
+// The origin of a renderer.
+fn show_origin(rt: &HostRuntime, table: &Renderers, id: RendererId, line: &str) -> io::Result<()> {
+    match table.origin_of(id) {
+        Some(origin) => show(rt, line, &str::from_utf8(origin.as_slice())),
+        None => show(rt, line, &"none"),
+    }
+}
+
+// Makes a call on a renderer, with a blob and the renderer that takes a handle.
+fn call_on(rt: &HostRuntime, table: &mut Renderers, line: &str) -> io::Result<()> {
     let id = RendererId(short_number(line, 2));
     let blob = BlobName::from_number(u128::from(short_number(line, 3)));
     match word(line, 1) {
-        "spawn" => {
-            let origin = origin(rt.alloc(), word(line, 3))?;
-            show(rt, line, &table.spawn(id, &origin))?;
-        }
-        "origin" => match table.origin_of(id) {
-            Some(origin) => show(rt, line, &str::from_utf8(origin.as_slice()))?,
-            None => show(rt, line, &"none")?,
-        },
-        "add" => show(rt, line, &add_one(table, id, blob)?)?,
+        "origin" => show_origin(rt, table, id, line),
         "pass" => {
             let to = RendererId(short_number(line, 4));
-            show(rt, line, &pass(table, id, to, blob))?;
+            show(rt, line, &pass(table, id, to, blob))
         }
-        "drop" => show(rt, line, &table.drop_one(id, blob))?,
-        "count" => show(rt, line, &table.count_of(id, blob))?,
-        "die" => show(rt, line, &die(table, id))?,
-        _ => show(rt, line, &"no such call")?,
+        "drop" => show(rt, line, &table.drop_one(id, blob)),
+        "count" => show(rt, line, &table.count_of(id, blob)),
+        "die" => show(rt, line, &die(table, id)),
+        "first" => show(rt, line, &table.first_alive()),
+        _ => show(rt, line, &"no such call"),
     }
-    Ok(())
+}
+
+// Adds a handle, or very many, for which memory may lack.
+fn show_more(rt: &HostRuntime, table: &mut Renderers, line: &str) -> anyhow::Result<()> {
+    let (one, two) = (short_number(line, 2), short_number(line, 3));
+    let shown = match word(line, 1) {
+        "add" => {
+            let blob = BlobName::from_number(u128::from(two));
+            show(rt, line, &add_one(table, RendererId(one), blob)?)
+        }
+        "deal" => show(rt, line, &deal(table, one, two)?),
+        "fill" => show(rt, line, &fill(rt.alloc(), table, one)?),
+        _ => show(rt, line, &empty(table, one, two)),
+    };
+    Ok(shown?)
+}
+
+/// Makes a call on a table of renderers, with a renderer, a blob and the renderer that takes a
+/// handle; or with two counts.
+pub fn call(rt: &HostRuntime, table: &mut Renderers, line: &str) -> anyhow::Result<()> {
+    match word(line, 1) {
+        "new" => {
+            *table = Renderers::new(rt.alloc())?;
+            Ok(())
+        }
+        "spawn" => spawn(rt, table, line),
+        "add" | "deal" | "fill" | "empty" => show_more(rt, table, line),
+        _ => Ok(call_on(rt, table, line)?),
+    }
 }
