@@ -11,6 +11,7 @@ use Rattle.item_shares.specs.declared.item.Item.{Item}
 use Rattle.item_shares.specs.declared.item.Item.TheVariants.{Memory, Paged, Reserved, File, Range}
 use Rattle.blob_items.specs.Cells.{total, IsPlaceOf}
 use Rattle.blob_items.specs.declared.view.View.{View}
+use Rattle.page_files.specs.declared.job.Job.{Job}
 use Rattle.blob_entries.specs.Book.{entry_at, entry_of}
 use Rattle.blob_entries.specs.Holdings.{fixed_views, own_views}
 use Rattle.blob_entries.specs.Names.{number_of}
@@ -101,19 +102,20 @@ all_absent : (piece : ℕ) (order : Order) → AllByRecursion (λ (used : ℕ ×
 all_absent piece [] all = refl
 all_absent piece (used ∷ order) all = ap (λ (b : Bool). b || is_there piece order) all.0 ∙ all_absent piece order all.1
 
-still_unused : (page : ℕ) (row : Row) (numbers : List ℕ) (order : Order) → AreUnused page order row → AreUnused page (touched_all order numbers) row
-still_unused page row numbers order unused piece from before =
-    all_absent piece (touched_all order numbers)
-    (all_keep (λ (used : ℕ × ℕ). nat_eq piece used.0 ≡ false) numbers order (absent_all piece order (unused piece from before)))
+still_unused : (page : ℕ) (row : Row) (numbers : List ℕ) (order : Order) (job : Option Job) → AreUnused page order job row
+    → AreUnused page (touched_all order numbers) job row
+still_unused page row numbers order job unused piece from before =
+    let was = unused piece from before in
+    (all_absent piece (touched_all order numbers) (all_keep (λ (used : ℕ × ℕ). nat_eq piece used.0 ≡ false) numbers order (absent_all piece order was.0)), was.1)
 
-still_awaited : (page : ℕ) (numbers : List ℕ) (order : Order) (held : Option Entry) (row : Option Row) → IfSome row (IsAwaited page order held)
-    → IfSome row (IsAwaited page (touched_all order numbers) held)
-still_awaited page numbers order held None is = tt
-still_awaited page numbers order None (Some row) is = is
-still_awaited page numbers order (Some entry) (Some row) is = record {
+still_awaited : (page : ℕ) (numbers : List ℕ) (order : Order) (job : Option Job) (held : Option Entry) (row : Option Row)
+    → IfSome row (IsAwaited page order job held) → IfSome row (IsAwaited page (touched_all order numbers) job held)
+still_awaited page numbers order job held None is = tt
+still_awaited page numbers order job None (Some row) is = is
+still_awaited page numbers order job (Some entry) (Some row) is = record {
   comes = is.comes;
   owned = is.owned;
-  unused = λ pending. still_unused page row numbers order (is.unused pending);
+  unused = λ pending. still_unused page row numbers order job (is.unused pending);
 }
 
 -- ---- the parts when a reader went on and pieces were used
@@ -180,7 +182,8 @@ module _ (parts : Parts) (whole : Whole parts) (number : ℕ) (reader : OpenRead
           names = whole.blobs.names;
           each_row = whole.blobs.each_row;
           awaited = λ one.
-              still_awaited parts.limits.page numbers parts.recent (entry_at parts.registry.entries one) (slice_get parts.rows one) (whole.blobs.awaited one);
+              still_awaited parts.limits.page numbers parts.recent parts.pages.job (entry_at parts.registry.entries one)
+              (slice_get parts.rows one) (whole.blobs.awaited one);
           waits = whole.blobs.waits;
           known = whole.blobs.known;
           weighed = whole.blobs.weighed;
