@@ -105,8 +105,11 @@ all_absent piece (used ∷ order) all = ap (λ (b : Bool). b || is_there piece o
 still_unused : (page : ℕ) (row : Row) (numbers : List ℕ) (order : Order) (job : Option Job) → AreUnused page order job row
     → AreUnused page (touched_all order numbers) job row
 still_unused page row numbers order job unused piece from before =
-    let was = unused piece from before in
-    (all_absent piece (touched_all order numbers) (all_keep (λ (used : ℕ × ℕ). nat_eq piece used.0 ≡ false) numbers order (absent_all piece order was.0)), was.1)
+    let was = unused piece from before in (
+      all_absent piece (touched_all order numbers)
+          (all_keep (λ (used : ℕ × ℕ). nat_eq piece used.0 ≡ false) numbers order (absent_all piece order was.0)),
+      was.1,
+    )
 
 still_awaited : (page : ℕ) (numbers : List ℕ) (order : Order) (job : Option Job) (held : Option Entry) (row : Option Row)
     → IfSome row (IsAwaited page order job held) → IfSome row (IsAwaited page (touched_all order numbers) job held)

@@ -68,7 +68,8 @@ module _ (page : ℕ) (order : List (ℕ × ℕ)) (job : Option Job) where
   awaited_same None (Some other) row same is = absurd (cc same)
   awaited_same (Some one) None row same is = absurd (cc same)
   awaited_same (Some one) (Some other) row same is =
-      if_same (Awaits page order job row) (λ entry roots one. record { comes = one.comes; owned = one.owned; unused = one.unused }) (Some one) (Some other) same is
+      if_same (Awaits page order job row) (λ entry roots one. record { comes = one.comes; owned = one.owned; unused = one.unused }) (Some one)
+      (Some other) same is
 
   if_awaited : (new old : Option Entry) (row : Option Row) → bare new ≡ bare old → IfSome row (IsAwaited page order job old)
       → IfSome row (IsAwaited page order job new)
