@@ -10,3 +10,4 @@ pub mod Using
 pub mod Forms
 pub mod Planning
 pub mod Slots
+pub mod FirstPlaces

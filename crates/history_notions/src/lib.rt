@@ -1,6 +1,7 @@
 //! Judges transcripts by the model: each notion of it as a function, on plain lists.
 #![tactic(auto)]
 
+pub mod blobs;
 pub mod builds;
 pub mod claims;
 pub mod construct;

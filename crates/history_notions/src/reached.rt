@@ -8,7 +8,8 @@ ghost use Rattle.history_notions.specs.Follows.{Follows};
 ghost use Rattle.history_notions.specs.Chosen.{items_at};
 ghost use Rattle.history_notions.specs.Reach.{do_meet, has_run, has_cell, is_whole, has_at, has_grant, is_reached_in};
 
-use crate::builds::{Build, build_in};
+use crate::blobs::Blobs;
+use crate::builds::Build;
 use crate::contents::Contents;
 use crate::pieces::Piece;
 use crate::run::{Run, Source};
@@ -77,10 +78,10 @@ fn is_whole(builds: &[Build], endings: &Endings, place: usize) -> bool
 }
 
 /// Whether the blob of the piece was granted.
-fn has_grant(granted: &Granted, builds: &[Build], piece: &Piece) -> bool
+fn has_grant(granted: &Granted, builds: &Blobs, piece: &Piece) -> bool
     ensures { result ≡ has_grant granted.now builds.now piece.now }
 {
-    match build_in(builds, piece.blob) {
+    match builds.find(piece.blob) {
         Some(build) => is_granted(granted, build.name, build.plan),
         None => false,
     }
@@ -109,7 +110,7 @@ fn whole_places(
 fn reached_from(
     alloc: Global,
     granted: &Granted,
-    builds: &[Build],
+    builds: &Blobs,
     places: &[usize],
     pieces: &[Piece],
 ) -> Result<ItemList<Piece>, NoMemory>
@@ -118,7 +119,7 @@ fn reached_from(
 {
     let mut found = ItemList::new(alloc);
     for piece in pieces {
-        if has_grant(granted, builds, piece) && has_some(builds, places, piece) {
+        if has_grant(granted, builds, piece) && has_some(builds.as_slice(), places, piece) {
             found.push(*piece)?;
         }
     }
@@ -146,7 +147,7 @@ impl Contents {
     {
         let places = self.live_cells()?;
         let granted = &self.kept.granted;
-        let builds = self.builds.as_slice();
+        let builds = &self.builds;
         let pieces = self.pieces.as_slice();
         let found = reached_from(self.alloc, granted, builds, places.as_slice(), pieces)?;
         Ok(found)
