@@ -11,3 +11,4 @@ pub mod Forms
 pub mod Planning
 pub mod Slots
 pub mod FirstPlaces
+pub mod Sending

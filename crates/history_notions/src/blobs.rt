@@ -36,11 +36,7 @@ impl Model for Blobs {
 }
 
 /// Notes that a name has come at a place: the first place of each name stays.
-fn note(
-    firsts: &mut BTreeMap<u128, usize>,
-    name: BlobName,
-    place: usize,
-) -> Result<(), NoMemory>
+fn note(firsts: &mut BTreeMap<u128, usize>, name: BlobName, place: usize) -> Result<(), NoMemory>
     ensures ok { OnOk result ((other : ℕ) → tree.get nat_cmp firsts.new other
         ≡ first_after name place other (tree.get nat_cmp firsts.old other)) }
     ensures err { OnErr result (firsts.new.entries ≡ firsts.old.entries) }

@@ -23,6 +23,7 @@ pub mod refusals;
 pub mod renderers;
 pub mod run;
 pub mod runs;
+pub mod senders;
 pub mod settle;
 pub mod standing;
 pub mod tally;

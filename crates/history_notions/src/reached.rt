@@ -1,6 +1,8 @@
 //! Which pieces are reached.
-ghost use Rattle.std.specs.Prelude.{◌≡◌, ℕ, ◌+◌, ◌<◌, ◌≤◌, ◌^◌, filter, map, IfOk};
+ghost use Rattle.std.specs.Prelude.{◌≡◌, ℕ, ◌+◌, ◌<◌, ◌≤◌, ◌^◌, filter, map, false, IfOk};
 ghost use Rattle.std.specs.List.{list_any};
+ghost use Rattle.std.specs.Ordering.{nat_cmp};
+ghost use Rattle.std.specs.BTreeSet.{contains};
 ghost use Rattle.blob_model.specs.Session.{Session, page_limit};
 ghost use Rattle.blob_model.specs.History.{History};
 ghost use Rattle.blob_model.specs.Reached.{live_cells, reached};
@@ -13,9 +15,11 @@ use crate::builds::Build;
 use crate::contents::Contents;
 use crate::pieces::Piece;
 use crate::run::{Run, Source};
+use crate::senders::senders;
 use crate::standing::{Endings, Granted, is_granted};
 use blob_words::{ItemList, NoMemory};
 use std::alloc::Global;
+use std::collections::BTreeSet;
 
 /// Whether two ranges, each told by its first number and by how many it has, share a number.
 fn do_meet(from: u128, len: u64, start: u64, count: u64) -> bool
@@ -106,6 +110,19 @@ fn whole_places(
     Ok(found)
 }
 
+/// Whether a blob at one of the places has a byte of the piece, where these names are among
+/// others those of the blobs whose own bytes are there.
+fn is_held_by(names: &BTreeSet<u128>, builds: &[Build], places: &[usize], piece: &Piece) -> bool
+    requires { contains nat_cmp names.now piece.now.blob ≡ false
+        → list_any (has_at builds.now piece.now) places.now ≡ false }
+    ensures { result ≡ list_any (has_at builds.now piece.now) places.now }
+{
+    if !names.contains(&piece.blob.number()) {
+        return false;
+    }
+    has_some(builds, places, piece)
+}
+
 /// Of these pieces those that are reached from the blobs at these places.
 fn reached_from(
     alloc: Global,
@@ -117,9 +134,12 @@ fn reached_from(
     ensures { IfOk result (λ found. found
         ≡ filter (is_reached_in granted.now builds.now places.now) pieces.now) }
 {
+    let names = senders(alloc, builds.as_slice(), places)?;
     let mut found = ItemList::new(alloc);
     for piece in pieces {
-        if has_grant(granted, builds, piece) && has_some(builds.as_slice(), places, piece) {
+        if has_grant(granted, builds, piece)
+            && is_held_by(&names, builds.as_slice(), places, piece)
+        {
             found.push(*piece)?;
         }
     }

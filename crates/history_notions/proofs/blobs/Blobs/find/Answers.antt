@@ -12,8 +12,8 @@ returns-in-Some c =
     let list : List Build = c.self.inside.list.items in
     let first : Some c.in-Some.place.now ≡ first_of list c.args.name = search rules in
     let there : option_copied c.get-in-Some.result ≡ slice_get list c.in-Some.place.now =
-        got_at c.get-in-Some.result c.deref.result.now c.in-Some.place.now c.get-in-Some.ensures.lookup.1
-        c.get-in-Some.ensures.lookup.3 ∙ ap (λ (builds : List Build). slice_get builds c.in-Some.place.now) c.deref.ensures.value in
+    got_at c.get-in-Some.result c.deref.result.now c.in-Some.place.now c.get-in-Some.ensures.lookup.1
+    c.get-in-Some.ensures.lookup.3 ∙ ap (λ (builds : List Build). slice_get builds c.in-Some.place.now) c.deref.ensures.value in
     there ∙ ap (at_place list) first ∙ first_found list c.args.name ∙ ap (λ (builds : List Build). build_in builds c.args.name) c.self.view_is
 
 pub returns-in-None : goal.returns-in-None
