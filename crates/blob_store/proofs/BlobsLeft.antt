@@ -1,5 +1,5 @@
 -- Entries, their items and the rows beside them agree again when entries went.
-use Rattle.std.proofs.Common.{◌≡◌, ℕ, ◌+◌, ◌<◌, ◌≤◌, ◌==◌, ◌||◌, not, Bool, true, false, cond, List, [], ◌∷◌, ◌++◌, Option, Some, None, length, refl, ap, subst}
+use Rattle.std.proofs.Common.{◌≡◌, ℕ, ◌+◌, ◌<◌, ◌≤◌, ◌==◌, not, Bool, true, false, cond, List, [], ◌∷◌, Option, Some, None, length, refl, ap, subst}
 use Rattle.std.proofs.Common.{sym, ◌∙◌, arith}
 use Rattle.std.specs.Prelude.{filter, flat_map, fold, nat_eq, slice_get, slice_index, IfSome, IsSomeAnd}
 use Rattle.std.specs.List.{list_any, AllByRecursion}
@@ -17,13 +17,13 @@ use Rattle.blob_items.specs.declared.view.View.{View}
 use Rattle.blob_entries.specs.Book.{Book, book_of, entry_at}
 use Rattle.blob_entries.specs.Contents.{is_own}
 use Rattle.blob_entries.specs.Counts.{count_at, views_on}
-use Rattle.blob_entries.specs.Holdings.{fixed_views, held_views, own_views}
+use Rattle.blob_entries.specs.Holdings.{held_views}
 use Rattle.blob_entries.specs.Leaving.{left}
 use Rattle.blob_entries.specs.Names.{number_of}
 use Rattle.blob_entries.specs.Statuses.{is_broken, is_pending}
 use Rattle.blob_entries.specs.Weights.{cut_weight}
 use Rattle.blob_entries.specs.declared.entry.Entry.{Entry}
-use Rattle.blob_entries.proofs.Counting.{on_append, on_cons}
+use Rattle.blob_entries.proofs.Counting.{on_cons}
 use Rattle.blob_entries.proofs.Holdings.{in_at, on_held}
 use Rattle.blob_registry.specs.Sweeps.{dropped, swept}
 use Rattle.page_files.specs.Files.{struck, Files}
@@ -127,9 +127,7 @@ module _ (shares later : List (Option Share)) where
   views_kept entry kept are = record {
     inside = all_kept shares later (λ (view : View) (o : Option Item). IsSomeAnd o (λ (item : Item). view.off + view.len ≤ item_length item))
         (held_views entry) kept are.inside;
-    there = all_kept shares later (λ (view : View) (o : Option Item). IfSome o IsThere) entry.views
-        (λ slot some. kept slot
-        (let sum = on_append slot (fixed_views entry.recipe ++ own_views entry.own) entry.views in omega (arith, sum, some))) are.there;
+    there = all_kept shares later (λ (view : View) (o : Option Item). IfSome o IsThere) (held_views entry) kept are.there;
   }
 
 module _ (page : ℕ) (book : Book) (shares later : List (Option Share)) (rows : List Row) (quota queue : Queue) (files now_files : Files)
