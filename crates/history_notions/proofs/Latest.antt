@@ -10,6 +10,13 @@ use Rattle.blob_model.specs.Transport.{has_come}
 use Rattle.std.specs.List.{list_any}
 use Rattle.history_notions.specs.Kept.{Hold, is_hold, count_in, Brought, is_arrival, arrivals_in}
 
+and_both : (a b : Bool) → a ≡ true → b ≡ true → (a && b) ≡ true
+and_both a b first second = ap (λ (x : Bool). x && b) first ∙ second
+
+pub if_twice : (b : Bool) (x y z : ℕ) → (if b then x else (if b then y else z)) ≡ (if b then x else z)
+if_twice true x y z = refl
+if_twice false x y z = refl
+
 false_true : false ≡ true → ⊥
 false_true e = cc
 
@@ -69,6 +76,51 @@ count_left holds gone holder name =
         (λ (hold : Hold) (there : is_hold holder name hold ≡ true).
         let same : hold.holder ≡ holder = eqb-true hold.holder holder (and_parts (hold.holder == holder) (hold.blob == name) there).0 in
         ap (λ (number : ℕ). not (number == gone)) same ∙ ap not (turned holder gone ∙ differs)))
+
+-- where nothing is said of a hold any more, it is none, and others are what they were
+pub count_without : (holds : List Hold) (one blob holder name : ℕ)
+    → count_in (filter (λ (hold : Hold). not (is_hold one blob hold)) holds) holder name
+    ≡ (if (one == holder) && (blob == name) then 0 else count_in holds holder name)
+count_without holds one blob holder name =
+    ap (λ (list : List Hold). option_map_or (λ (hold : Hold). hold.count) (find (is_hold holder name) list) 0)
+    (reverse_filter (λ (hold : Hold). not (is_hold one blob hold)) holds) ∙ by ((one == holder) && (blob == name)) refl
+  where
+    by : (b : Bool) → ((one == holder) && (blob == name)) ≡ b
+        → option_map_or (λ (hold : Hold). hold.count) (find (is_hold holder name) (filter (λ (hold : Hold). not (is_hold one blob hold)) (reverse holds))) 0
+        ≡ (if b then 0 else count_in holds holder name)
+    by true same =
+        ap (λ (found : Option Hold). option_map_or (λ (hold : Hold). hold.count) found 0)
+        (find_gone (is_hold holder name) (λ (hold : Hold). not (is_hold one blob hold)) (reverse holds)
+        (λ (hold : Hold) (there : is_hold holder name hold ≡ true).
+        let parts = and_parts (hold.holder == holder) (hold.blob == name) there in
+        let wanted = and_parts (one == holder) (blob == name) same in
+        ap not (and_both (hold.holder == one) (hold.blob == blob)
+        (eq-eqb hold.holder one (eqb-true hold.holder holder parts.0 ∙ sym (eqb-true one holder wanted.0)))
+        (eq-eqb hold.blob blob (eqb-true hold.blob name parts.1 ∙ sym (eqb-true blob name wanted.1))))))
+    by false differs =
+        ap (λ (found : Option Hold). option_map_or (λ (hold : Hold). hold.count) found 0)
+        (find_kept (is_hold holder name) (λ (hold : Hold). not (is_hold one blob hold)) (reverse holds)
+        (λ (hold : Hold) (there : is_hold holder name hold ≡ true).
+        let parts = and_parts (hold.holder == holder) (hold.blob == name) there in
+        ap not (ap (λ (number : ℕ). (number == one) && (hold.blob == blob)) (eqb-true hold.holder holder parts.0)
+        ∙ ap (λ (number : ℕ). (holder == one) && (number == blob)) (eqb-true hold.blob name parts.1)
+        ∙ ap (λ (b : Bool). b && (name == blob)) (turned holder one)
+        ∙ ap (λ (b : Bool). (one == holder) && b) (turned name blob)
+        ∙ differs)))
+
+-- one hold more is the last that is said of it
+pub count_with : (holds : List Hold) (one blob count holder name : ℕ)
+    → count_in (holds ++ (record { holder = one; blob = blob; count = count }) ∷ []) holder name
+    ≡ (if (one == holder) && (blob == name) then count else count_in holds holder name)
+count_with holds one blob count holder name =
+    ap (λ (list : List Hold). option_map_or (λ (hold : Hold). hold.count) (find (is_hold holder name) list) 0)
+    (reverse-append holds ((record { holder = one; blob = blob; count = count }) ∷ [])) ∙ by ((one == holder) && (blob == name))
+  where
+    by : (b : Bool) → option_map_or (λ (hold : Hold). hold.count)
+        (cond {A = Option Hold} b (Some (record { holder = one; blob = blob; count = count })) (find (is_hold holder name) (reverse holds))) 0
+        ≡ (if b then count else count_in holds holder name)
+    by true = refl
+    by false = refl
 
 -- a segment is among those that came where it is among those of its blob
 pub come_among : (name segment : ℕ) (all : List Brought) → list_any (is_arrival name segment) all ≡ has_come (arrivals_in all name) segment

@@ -10,3 +10,5 @@ pub mod Using
 pub mod Forms
 pub mod Planning
 pub mod Slots
+pub mod FirstPlaces
+pub mod Sending

@@ -1,5 +1,5 @@
 //! Blob handles: how often a renderer holds a blob.
-ghost use Rattle.std.specs.Prelude.{◌≡◌, ℕ, ◌==◌, ◌++◌, ◌∷◌, [], ◌^◌, ◌<◌, find, reverse, nat_lt, not, filter, OnOk};
+ghost use Rattle.std.specs.Prelude.{◌≡◌, ℕ, ◌==◌, ◌++◌, ◌∷◌, [], ◌^◌, ◌<◌, ◌&&◌, find, reverse, nat_lt, not, filter, if◌then◌else◌, OnOk};
 ghost use Rattle.std.specs.Option.{option_copied};
 ghost use Rattle.blob_model.specs.Handles.{count_after};
 ghost use Rattle.history_notions.specs.Kept.{count_in, is_hold};
@@ -71,6 +71,13 @@ fn without_holder(holds: &mut Vec<Hold>, holder: u32)
     holds.retain(|hold| hold.holder != holder);
 }
 
+// Nothing is said any more of how often the renderer holds the blob.
+fn without_hold(holds: &mut Vec<Hold>, holder: u32, blob: BlobName)
+    ensures { holds.new.items ≡ filter (λ hold. not (is_hold holder blob hold)) holds.old.items }
+{
+    holds.retain(|hold| !is_hold(holder, blob, hold));
+}
+
 impl Holds {
     /// No handle.
     pub fn new(alloc: Global) -> Holds
@@ -95,10 +102,16 @@ impl Holds {
         self.count(holder, blob) > 0
     }
 
+    // The renderer has so many handles on the blob from now on.
     fn set(&mut self, holder: u32, blob: BlobName, count: u64) -> Result<(), NoMemory>
-        ensures { OnOk result (self.new
-            ≡ self.old ++ (record { holder = holder; blob = blob; count = count }) ∷ []) }
+        ensures { OnOk result ((other name : ℕ) → count_in self.new other name
+            ≡ (if holder == other && blob == name then count
+            else count_in self.old other name)) }
     {
+        without_hold(&mut self.holds, holder, blob);
+        if count == 0 {
+            return Ok(());
+        }
         self.holds.push(Hold {
             holder,
             blob,
