@@ -68,7 +68,7 @@ some_passing {X = X} P goal keep test (x ∷ xs) each f e = go (keep x) refl e (
     go true at g rest = ⊎_elim (λ (here : test x ≡ true). f x each.0 at here) (λ more. rest more) (or_cases (test x) (list_any test (filter keep xs)) g)
     go false at g rest = rest g
 
-some_length : {X : Type 0} (test : X → Bool) (xs : List X) → nat_lt 0 (length (filter test xs)) ≡ list_any test xs
+pub some_length : {X : Type 0} (test : X → Bool) (xs : List X) → nat_lt 0 (length (filter test xs)) ≡ list_any test xs
 some_length test [] = refl
 some_length {X = X} test (x ∷ xs) = go (test x) (some_length test xs)
   where
@@ -94,11 +94,11 @@ written_pages number (Some list ∷ more) = (
 )
 
 -- some piece is held there
-abbrev has_some : List (ℕ × ℕ × ℕ) → Bool
+abbrev pub has_some : List (ℕ × ℕ × ℕ) → Bool
 has_some [] = false
 has_some (one ∷ more) = true
 
-placed_some : (all : List Piece) (is_there : ℕ → Bool) (off : ℕ) (list : List ℕ) → has_some (placed_from all is_there off list) ≡ list_any is_there list
+pub placed_some : (all : List Piece) (is_there : ℕ → Bool) (off : ℕ) (list : List ℕ) → has_some (placed_from all is_there off list) ≡ list_any is_there list
 placed_some all is_there off [] = refl
 placed_some all is_there off (number ∷ list) = go (is_there number) (placed_some all is_there (off + length_in all number) list)
   where
@@ -415,7 +415,7 @@ module _ (s : Session) (h : History) (stands : ℕ → Bool) (book : Book) (shar
   abbrev in_this : ℕ → Piece → Bool
   in_this n piece = is_page n (place (page_limit s) h piece)
 
-  page_has : (n : ℕ) (list : List ℕ) → get_or (writes h) n None ≡ Some list
+  pub page_has : (n : ℕ) (list : List ℕ) → get_or (writes h) n None ≡ Some list
       → (not (is_asked n) && list_any (holds_paged shares n) list) ≡ list_any (in_this n) (reached (page_limit s) h)
   page_has n list written =
       iff_true (not (is_asked n) && list_any (holds_paged shares n) list) (list_any (in_this n) (reached (page_limit s) h))

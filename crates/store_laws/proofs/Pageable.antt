@@ -37,7 +37,7 @@ use Rattle.store_laws.proofs.PassUses.{three}
 -- ---- the piece of a number among those that pass a test
 
 module _ (q : Piece → Bool) (number : ℕ) where
-  none_passes : (list : List Piece) → AllByRecursion (λ (piece : Piece). piece.number ≡ number → q piece ≡ false) list
+  pub none_passes : (list : List Piece) → AllByRecursion (λ (piece : Piece). piece.number ≡ number → q piece ≡ false) list
       → find (λ (piece : Piece). piece.number == number) (filter q list) ≡ None
   none_passes [] all = refl
   none_passes (piece ∷ list) all = go (q piece) refl (piece.number == number) refl (none_passes list all.1)
