@@ -45,10 +45,10 @@ abbrev pub IsThere : Item → Type 0
 IsThere (Reserved piece len) = ⊥
 IsThere item = Unit {0}
 
--- the views of an entry lie inside items, and those of its bytes on items that are there
+-- the views of an entry lie inside items, which are there
 pub record Views (shares : List (Option Share)) (entry : Entry) : Type 0 where
   pub inside : AllByRecursion (IsInside shares) (held_views entry)
-  pub there : AllByRecursion (λ (view : View). IfSome (item_at shares view.slot) IsThere) entry.views
+  pub there : AllByRecursion (λ (view : View). IfSome (item_at shares view.slot) IsThere) (held_views entry)
 
 -- the blob that a step is of was built
 abbrev pub IsKnown : List ℕ → Step → Type 0

@@ -2,4 +2,6 @@
 
 mod drops;
 mod endings;
+mod page_jobs;
+mod removals;
 mod rows;
