@@ -1,5 +1,6 @@
 -- The parts agree once a page job has started, and it is told as the history calls for.
-use Rattle.std.proofs.Common.{◌≡◌, ◌≢◌, ℕ, zero, suc, ◌+◌, ◌<◌, ◌≤◌, ◌==◌, not, ◌&&◌, ◌||◌, Bool, true, false, cond, List, [], ◌∷◌, ◌++◌, map, length, refl, ap, sym, subst}
+use Rattle.std.proofs.Common.{◌≡◌, ◌≢◌, ℕ, zero, suc, ◌+◌, ◌<◌, ◌≤◌, ◌==◌, not, ◌&&◌, ◌||◌, Bool, true, false, cond, List, [], ◌∷◌, ◌++◌, map, length}
+use Rattle.std.proofs.Common.{refl, ap, sym, subst}
 use Rattle.std.proofs.Common.{◌∙◌, append-nil, arith, min, nat_eq, nat_lt, Option, Some, None}
 use Rattle.std.specs.Prelude.{is_none, slice_get, IfSome, IsSomeAnd}
 use Rattle.std.specs.Option.{option_map, option_map_or}

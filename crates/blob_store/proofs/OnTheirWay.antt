@@ -46,7 +46,8 @@ way_elsewhere number len came (File name stamp off size) is = tt
 way_elsewhere number len came (Range handle off size) is = tt
 
 -- what each item on its way has, those of slots with a pin have
-module _ (P : Item → Type 0) (way : (number len : ℕ) (came : Bool) (item : Item) → IsOnItsWay number len came item → P item) (shares : List (Option Share)) where
+module _ (P : Item → Type 0) (way : (number len : ℕ) (came : Bool) (item : Item) → IsOnItsWay number len came item → P item)
+    (shares : List (Option Share)) where
   some_way : (number len : ℕ) (came : Bool) (o : Option Item) → IsSomeAnd o (IsOnItsWay number len came) → IsSomeAnd o P
   some_way number len came None is = absurd is
   some_way number len came (Some item) is = way number len came item is

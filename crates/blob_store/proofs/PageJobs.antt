@@ -1,5 +1,6 @@
 -- The pieces that a page job takes: each is in memory in its home, they differ, none is empty, and there is room for them.
-use Rattle.std.proofs.Common.{◌≡◌, ℕ, ◌+◌, ◌-◌, ◌<◌, ◌≤◌, ◌==◌, ◌&&◌, ◌||◌, not, Bool, true, false, cond, List, [], ◌∷◌, ◌++◌, map, min, nat_le, refl, ap, sym, subst, ◌∙◌}
+use Rattle.std.proofs.Common.{◌≡◌, ℕ, ◌+◌, ◌-◌, ◌<◌, ◌≤◌, ◌==◌, ◌&&◌, ◌||◌, not, Bool, true, false, cond, List, [], ◌∷◌, ◌++◌, map, min, nat_le, refl}
+use Rattle.std.proofs.Common.{ap, sym, subst, ◌∙◌}
 use Rattle.std.proofs.Common.{Option, Some, None, length, take, get_or, arith, nat_eq}
 use Rattle.std.specs.Prelude.{slice_get, sum_by, IfSome, IsSomeAnd}
 use Rattle.std.specs.List.{list_any, AllByRecursion, IsDistinct}

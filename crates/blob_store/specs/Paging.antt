@@ -1,5 +1,6 @@
 -- What becomes of the parts when a page job starts: list 6 of settling. Own.
-use Rattle.std.specs.Prelude.{ℕ, ◌≡◌, ◌+◌, ◌-◌, ◌&&◌, ◌<◌, true, List, [], length, min, nat_lt, slice_get, is_none, map, Option, None, Some, IfSome, IsSomeAnd, if◌then◌else◌}
+use Rattle.std.specs.Prelude.{ℕ, ◌≡◌, ◌+◌, ◌-◌, ◌&&◌, ◌<◌, true, List, [], length, min, nat_lt, slice_get, is_none, map, Option, None, Some, IfSome}
+use Rattle.std.specs.Prelude.{IsSomeAnd, if◌then◌else◌}
 use Rattle.std.specs.List.{AllByRecursion}
 use Rattle.blob_words.specs.declared.number.PieceNo.{PieceNo}
 use Rattle.item_shares.specs.Shares.{item_at}

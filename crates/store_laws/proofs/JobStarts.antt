@@ -126,7 +126,7 @@ module _ (shares : List (Option Share)) where
       by (Some (File name stamp off len)) is = absurd is
       by (Some (Range k off len)) is = absurd is
 
-  all_held : (list : List Held) → AllByRecursion (IsSlotOf shares) list → filter (holds_piece shares) (held_numbers list) ≡ held_numbers list
+  pub all_held : (list : List Held) → AllByRecursion (IsSlotOf shares) list → filter (holds_piece shares) (held_numbers list) ≡ held_numbers list
   all_held [] all = refl
   all_held (held ∷ list) all =
       ap (λ (b : Bool). cond b (held.piece.0 ∷ filter (holds_piece shares) (held_numbers list)) (filter (holds_piece shares) (held_numbers list)))
@@ -168,7 +168,7 @@ module _ (shares : List (Option Share)) where
 
 -- ---- the page files with the job
 
-idle : (is_held : ℕ → Bool) (flying : Option JobSaid) (job : Option Job) → option_map job_as job ≡ option_map (with_held is_held) flying → job ≡ None
+pub idle : (is_held : ℕ → Bool) (flying : Option JobSaid) (job : Option Job) → option_map job_as job ≡ option_map (with_held is_held) flying → job ≡ None
     → flying ≡ None
 idle is_held None job same none = refl
 idle is_held (Some one) job same none =
@@ -276,7 +276,8 @@ module _ (s : Session) (h : History) (shares : List (Option Share)) (rows : List
       by None at found t told is = absurd found
       by (Some one) at found None told is = absurd is
       by (Some one) at found (Some entry) told is =
-          ap (λ (b : Bool). not b || is_reserved (unlisted_place (build_in (builds (page_limit s) h) one.blob))) (done_over h one.blob (done_there held.piece.0 one entry told at))
+          ap (λ (b : Bool). not b || is_reserved (unlisted_place (build_in (builds (page_limit s) h) one.blob)))
+          (done_over h one.blob (done_there held.piece.0 one entry told at))
 
   all_fly : (list : List Held) → AllByRecursion (λ (held : Held). IsSomeAnd (piece_in (pieces (page_limit s) h) held.piece.0)
       (λ (one : Piece). held.len ≡ one.len)) list

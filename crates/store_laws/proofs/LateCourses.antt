@@ -1,8 +1,9 @@
 -- Behind the late drops the history is at rest, as behind the whole group; and each late answer leaves it so.
-use Rattle.std.proofs.Common.{◌≡◌, ℕ, true, false, List, [], ◌∷◌, ◌++◌, refl, ap, sym, subst, ◌∙◌, Option, Some, None, ◌==◌, map}
+use Rattle.std.proofs.Common.{◌≡◌, ℕ, true, false, List, [], ◌∷◌, ◌++◌, refl, ap, sym, subst, ◌∙◌, Option, Some, None, ◌==◌, map, nat_eq}
 use Rattle.std.specs.Prelude.{filter, is_none, is_some, IfSome}
 use Rattle.std.specs.Option.{option_map_or}
-use Rattle.std.specs.List.{AllByRecursion, list_any}
+use Rattle.std.specs.List.{AllByRecursion, IsDistinct, list_any}
+use Rattle.std.proofs.lemmas.Bool.{eq-eqb, ne_eqb, or_parts}
 use Rattle.blob_words.specs.declared.status.Status.{Status}
 use Rattle.blob_entries.specs.Statuses.{is_pending}
 use Rattle.session_script.specs.declared.event.Event.{Event}
@@ -22,7 +23,8 @@ use Rattle.blob_model.specs.Settle.{compactions, grants, is_due, page_jobs, remo
 use Rattle.blob_model.specs.Standing.{ended, is_broken, is_broken_status, is_unfinished}
 use Rattle.blob_model.specs.Tally.{files, tally}
 use Rattle.blob_model.specs.Waits.{waits}
-use Rattle.blob_model.proofs.Lists.{false_true, for_each}
+use Rattle.blob_model.proofs.Lists.{false_true, for_each, AreApart}
+use Rattle.blob_model.proofs.counts.Groups.{counts_caused}
 use Rattle.blob_model.proofs.kept.Kept.{waiting_said}
 use Rattle.blob_model.proofs.legal.Causes.{IsCaused}
 use Rattle.blob_model.proofs.legal.Fronts.{more_legal}
@@ -98,6 +100,19 @@ module _ (page : ℕ) (h g : History) (alike : IsAlike page h g) where
         (alive_so source ∙ both.0, broken_so source ∙ both.1)) rest.sources);
   }
 
+-- ---- numbers that differ
+
+distinct_from : (list : List ℕ) → AreApart list → IsDistinct nat_eq list
+unfolding IsDistinct
+distinct_from [] apart = tt
+distinct_from (number ∷ list) apart = (others list apart.0, distinct_from list apart.1)
+  where
+    others : (list : List ℕ) → list_any (λ (each : ℕ). each == number) list ≡ false → AllByRecursion (λ (each : ℕ). nat_eq number each ≡ false) list
+    others [] none = tt
+    others (each ∷ list) none =
+        let parts = or_parts (each == number) (list_any (λ (one : ℕ). one == number) list) none in
+        (ne_eqb number each (λ same. false_true (sym parts.0 ∙ eq-eqb each number (sym same))), others list parts.1)
+
 -- ---- a late answer
 
 late_same : (answer : Answer) → is_late answer ≡ true → AllLate (answer ∷ [])
@@ -134,6 +149,7 @@ course_goes s h answer late fly course =
       flying = still_fly s h answer (in_flight (said h answer)) fly;
       written = subst (AreWritable s (said h answer)) (sym same.0)
           (kept_files s h (said h answer) (said_flies (page_limit s) h answer) (pages h) course.written);
+      apart = subst (AllByRecursion (λ (file : Page). IsDistinct nat_eq file.pieces)) (sym same.0) course.apart;
       unsent = for_each (IsUnsent s h) (IsUnsent s (said h answer)) (builds (page_limit s) h)
           (λ build is waits. is (waiting_said h answer build waits)) course.unsent;
     }
@@ -208,6 +224,8 @@ module _ (s : Session) (groups : List Group) (event : Event) (own : List Answer)
     in_turn = pages_in_turn s late caused;
     flying = (all_listable s late caused).job;
     written = (all_listable s late caused).files;
+    apart = for_each (λ (file : Page). AreApart file.pieces) (λ (file : Page). IsDistinct nat_eq file.pieces) (pages late)
+        (λ file. distinct_from file.pieces) (counts_caused s late caused).pages_apart;
     unsent = all_unsent s late caused;
   }
 

@@ -111,3 +111,5 @@ pub mod ReachesFollow
 pub mod Unsent
 pub mod GrantedParts
 pub mod Granting
+pub mod PageMoves
+pub mod Compactions

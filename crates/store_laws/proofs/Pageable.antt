@@ -74,7 +74,7 @@ numbers_any : (number : ℕ) (list : List Held) → list_any (λ (named : ℕ). 
 numbers_any number [] = refl
 numbers_any number (held ∷ list) = ap (λ (b : Bool). (held.piece.0 == number) || b) (numbers_any number list)
 
-filter_any : (test : ℕ → Bool) (number : ℕ) → test number ≡ true → (list : List ℕ)
+pub filter_any : (test : ℕ → Bool) (number : ℕ) → test number ≡ true → (list : List ℕ)
     → list_any (λ (named : ℕ). named == number) (filter test list) ≡ list_any (λ (named : ℕ). named == number) list
 filter_any test number passes [] = refl
 filter_any test number passes (named ∷ list) = go (test named) refl (filter_any test number passes list)

@@ -1,6 +1,6 @@
 -- What holds behind the late drops, list 3 of settling, through the lists behind it: the live blobs stand and no others. Own.
-use Rattle.std.specs.Prelude.{ℕ, ◌≡◌, ◌||◌, Bool, false, true, not, List, [], Option, IfSome, IsSomeAnd}
-use Rattle.std.specs.List.{AllByRecursion}
+use Rattle.std.specs.Prelude.{ℕ, ◌≡◌, ◌||◌, Bool, false, true, nat_eq, not, List, [], Option, IfSome, IsSomeAnd}
+use Rattle.std.specs.List.{AllByRecursion, IsDistinct}
 use Rattle.answer_text.specs.declared.answer.Answer.{Answer}
 use Rattle.data_handles.specs.Table.{Table as HandleTable}
 use Rattle.page_disk.specs.declared.change.Change.{Change}
@@ -35,12 +35,13 @@ abbrev pub IsUnsent : Session → History → Build → Type 0
 IsUnsent s h build = is_waiting h build ≡ true → (arrivals h build.name ≡ []) × (has_all s.limits h build ≡ false)
 
 -- of the history alone: no ending by a broken source is owed, page numbers were taken one after the other, page files and the job in flight list
--- such pieces, and of blobs that wait nothing came
+-- such pieces, no page file one twice, and of blobs that wait nothing came
 pub record LateCourse (s : Session) (h : History) : Type 0 where
   pub rest : IsAtRest (page_limit s) h
   pub in_turn : pages h ≡ numbered_pages 0 (writes h)
   pub flying : IfSome (in_flight h) (λ (job : Job). AllByRecursion (IsFlyable (page_limit s) h) job.pieces)
   pub written : AllByRecursion (λ (file : Page). AllByRecursion (IsFlyable (page_limit s) h) file.pieces) (pages h)
+  pub apart : AllByRecursion (λ (file : Page). IsDistinct nat_eq file.pieces) (pages h)
   pub unsent : AllByRecursion (IsUnsent s h) (builds (page_limit s) h)
 
 -- the parts stand for it, with the live blobs and no others, and nobody is marked to break

@@ -50,3 +50,4 @@ pub mod Late
 pub mod LateJobs
 pub mod LateLaws
 pub mod Granting
+pub mod Compacting

@@ -1,4 +1,5 @@
 //! What the lists behind the late drops read off the parts.
+ghost use Rattle.store_laws.specs.Compacting.{CompactionsStand};
 ghost use Rattle.store_laws.specs.Granting.{GrantsStand};
 ghost use Rattle.store_laws.specs.LateJobs.{PageJobsStand};
 ghost use Rattle.store_laws.specs.LateLaws.{CoursesGo, LateBegins, LateKeeps, RemovalsStand};
@@ -57,4 +58,10 @@ pub fn late_keeps()
 /// are those of the heads that fit, one after the other.
 pub fn grants_stand()
     ensures { GrantsStand }
+{}
+
+/// The compaction that is owed is the one that the page files call for, where a job may start, and
+/// the parts stand behind it.
+pub fn compactions_stand()
+    ensures { CompactionsStand }
 {}
