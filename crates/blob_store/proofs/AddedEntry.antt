@@ -266,7 +266,7 @@ module _ (renderer : RendererId) (name : ℕ) (kind : List ℕ) (plan : Plan) (l
   comes_so = subst (Comes entry.status entry.own) (sym came.sending) (by plan)
     where
       by : (one : Plan) → Comes (status_by one) (own_by one laid.pieces) (sending_by one (map slot_of laid.pieces))
-      by (plans.Shared n) = refl
+      by (plans.Shared n) = (refl, refl)
       by (plans.File n) = (refl, refl)
       by plans.None = tt
       by plans.Inline = tt

@@ -100,7 +100,7 @@ unbroken statuses.Dereferenced is broken = is
 -- bytes that come are those of an unfinished blob
 pub comes_pending : (status : Status) (own : Option (List View)) (sending : Sending) → Comes status own sending → is_pending status ≡ false → sending ≡ Settled
 comes_pending status own Settled is ended = refl
-comes_pending status own Waiting is ended = absurd (false_true (sym ended ∙ ap is_pending is))
+comes_pending status own Waiting is ended = absurd (false_true (sym ended ∙ ap is_pending is.0))
 comes_pending status own (Gathering segments) is ended = absurd (false_true (sym ended ∙ ap is_pending is.0))
 comes_pending status own (Writing slots came) is ended = absurd (false_true (sym ended ∙ ap is_pending is.0))
 

@@ -90,5 +90,8 @@ pub mod HeardReads
 pub mod Droppable
 pub mod Reaching
 pub mod RemovedPages
+pub mod GatheringRows
+pub mod WholeGranted
+pub mod SeenGranted
 pub mod PageJobs
 pub mod JobsWhole

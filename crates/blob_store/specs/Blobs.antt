@@ -80,7 +80,7 @@ pub record Charged (entries : List (Option Entry)) (shares : List (Option Share)
 -- how bytes come for a blob of this status: they wait until it is granted, and come until it has them
 abbrev pub Comes : Status → Option (List View) → Sending → Type 0
 Comes status own Settled = Unit {0}
-Comes status own Waiting = status ≡ PendingQuota
+Comes status own Waiting = (status ≡ PendingQuota) × (own ≡ None)
 Comes status own (Gathering segments) = (status ≡ PendingTransport) × (own ≡ None)
 Comes status own (Writing slots came) = (status ≡ PendingTransport) × (own ≡ None)
 

@@ -28,4 +28,5 @@ pub mod Adding
 pub mod Admitting
 pub mod Steps
 pub mod Telling
+pub mod Granting
 pub mod Paging

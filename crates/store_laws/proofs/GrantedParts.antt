@@ -1,5 +1,6 @@
 -- Entries and rows once one blob has its room: what is said of the others stays, and its segments may come.
-use Rattle.std.proofs.Common.{◌≡◌, ℕ, zero, suc, ◌+◌, ◌==◌, ◌&&◌, ◌||◌, not, Bool, true, false, cond, List, [], ◌∷◌, map, length, replicate, refl, ap, subst, sym, ◌∙◌, Option, Some, None, arith}
+use Rattle.std.proofs.Common.{◌≡◌, ℕ, zero, suc, ◌+◌, ◌==◌, ◌&&◌, ◌||◌, not, Bool, true, false, cond, List, [], ◌∷◌, map, length, replicate, refl, ap}
+use Rattle.std.proofs.Common.{subst, sym, ◌∙◌, Option, Some, None, arith}
 use Rattle.std.specs.Prelude.{is_none, sum, unwrap_or, IfSome, IsSomeAnd}
 use Rattle.std.specs.Int.{div_ceil}
 use Rattle.std.specs.Option.{option_map, option_map_or}
@@ -42,7 +43,8 @@ use Rattle.store_laws.specs.Items.{IsPlaced, ItemsStand}
 use Rattle.store_laws.specs.LineLaws.{AreUnmarked}
 use Rattle.store_laws.specs.Outlines.{Outline, outline, outline_of, status_now, IsMarkedRight}
 use Rattle.store_laws.specs.Recipes.{EntryStands, IsEntryFor, RowsBeside, StandsFor}
-use Rattle.store_laws.specs.Rows.{AreWritten, Row, bare, coming_by, coming_of, gathered_of, gathering, gathers, is_gathered, row_of, segments_of, settled, waiting}
+use Rattle.store_laws.specs.Rows.{AreWritten, Row, bare, coming_by, coming_of, gathered_of, gathering, gathers, is_gathered, row_of, segments_of}
+use Rattle.store_laws.specs.Rows.{settled, waiting}
 use Rattle.store_laws.specs.Uses.{facts_of}
 use Rattle.store_laws.proofs.Coming.{AreRowed, row_at}
 use Rattle.store_laws.proofs.PassOrder.{turn}
@@ -346,8 +348,8 @@ module _ (s : Session) (h : History) (head : Build) (is : IsHead s h head) where
           here true at None f is = tt
           here true at (Some entry) f is = entry_on build entry (waited build entry (alone.0 at) f) is
 
-      pub written_now : (list : List Build) (rows : List (Option Row)) → RowsBeside (λ (build : Build) (row : Row). AreWritten shares (own build.name) row.coming)
-          list rows
+      pub written_now : (list : List Build) (rows : List (Option Row))
+          → RowsBeside (λ (build : Build) (row : Row). AreWritten shares (own build.name) row.coming) list rows
           → RowsBeside (λ (build : Build) (row : Row). AreWritten shares (own build.name) row.coming) list
           (changed_by head.name (gathering_row s.limits) list rows)
       written_now [] rows is = tt

@@ -1,5 +1,6 @@
 -- The parts stand once the head of the queue has its room, and grants are owed in order while the head fits.
-use Rattle.std.proofs.Common.{◌≡◌, ℕ, ◌+◌, ◌<◌, ◌≤◌, ◌==◌, ◌&&◌, ◌||◌, not, Bool, true, false, cond, List, [], ◌∷◌, drop, refl, ap, subst, sym, ◌∙◌, Option, Some, None, arith}
+use Rattle.std.proofs.Common.{◌≡◌, ℕ, ◌+◌, ◌<◌, ◌≤◌, ◌==◌, ◌&&◌, ◌||◌, not, Bool, true, false, cond, List, [], ◌∷◌, drop, refl, ap, subst, sym, ◌∙◌}
+use Rattle.std.proofs.Common.{Option, Some, None, arith}
 use Rattle.std.specs.Prelude.{filter, filter_map, nat_le, slice_get, IfNone, IfSome}
 use Rattle.std.specs.Option.{option_map_or}
 use Rattle.std.specs.List.{list_any, AllByRecursion}
@@ -41,7 +42,8 @@ use Rattle.store_laws.specs.LineLaws.{AreUnmarked}
 use Rattle.store_laws.specs.Rows.{Row}
 use Rattle.store_laws.specs.Stands.{Between, ContentsStand, Parts}
 use Rattle.store_laws.specs.Uses.{is_held, order_of, own_pieces}
-use Rattle.store_laws.proofs.GrantedParts.{IsAlone, IsHead, begun, book_changed, by_number, changed_by, changed_long, entries_now, gathered_other, items_now, marks_so, outlined_now, rowed_now, unmarked_now, written_now}
+use Rattle.store_laws.proofs.GrantedParts.{IsAlone, IsHead, begun, book_changed, by_number, changed_by, changed_long, entries_now, gathered_other}
+use Rattle.store_laws.proofs.GrantedParts.{items_now, marks_so, outlined_now, rowed_now, unmarked_now, written_now}
 use Rattle.store_laws.proofs.LateCourses.{course_goes}
 use Rattle.store_laws.proofs.LateLists.{heads_are_granted}
 use Rattle.store_laws.proofs.Paired.{all_blobs_found}
@@ -287,7 +289,8 @@ grants_stand = record {
     none_owed s h quota goes None at full =
         subst (λ (o : Option (ℕ × ℕ)). IfNone o (grants_of s h (waits (page_limit s) h) ≡ [])) at goes.none
     none_owed s h quota goes (Some blob) at full =
-        let over = subst (λ (o : Option (ℕ × ℕ)). IfSome o (λ one. nat_le (quota.used + one.1) quota.limit ≡ false → grants_of s h (waits (page_limit s) h) ≡ []))
+        let over = subst
+        (λ (o : Option (ℕ × ℕ)). IfSome o (λ one. nat_le (quota.used + one.1) quota.limit ≡ false → grants_of s h (waits (page_limit s) h) ≡ []))
         at goes.full in
         over (above (nat_le (quota.used + blob.1) quota.limit) refl)
       where
