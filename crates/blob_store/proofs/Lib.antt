@@ -95,3 +95,4 @@ pub mod WholeGranted
 pub mod SeenGranted
 pub mod PageJobs
 pub mod JobsWhole
+pub mod LettingGo

@@ -30,3 +30,4 @@ pub mod Steps
 pub mod Telling
 pub mod Granting
 pub mod Paging
+pub mod Closing
