@@ -1,5 +1,6 @@
 -- One slot after the other lets its object go, where it was claimed.
-use Rattle.std.proofs.Common.{◌≡◌, ℕ, ◌+◌, ◌<◌, ◌≤◌, ◌&&◌, Bool, true, false, cond, List, ◌++◌, map, drop, take, length, refl, ap, sym, ◌∙◌, arith, Option, Some, None, get_or, take_all, append-nil}
+use Rattle.std.proofs.Common.{◌≡◌, ℕ, ◌+◌, ◌<◌, ◌≤◌, ◌&&◌, Bool, true, false, cond, List, ◌++◌, map, drop, take, length, refl, ap, sym, ◌∙◌}
+use Rattle.std.proofs.Common.{arith, Option, Some, None, get_or, take_all, append-nil}
 use Rattle.std.specs.Prelude.{is_some, slice_set, option_and_then}
 use Rattle.std.specs.Option.{option_map_or}
 use Rattle.std.proofs.lemmas.List.{drop_all, set-get_or, length-append, length-drop, length-map, length-take-le}
@@ -52,14 +53,17 @@ module _ (old mid : Table) (k : ℕ) (inside : k < length old.slots) (so : LetGo
   more : slice_set mid.slots k (let_go slot) ≡ map let_go (take (k + 1) old.slots) ++ drop (k + 1) old.slots
   more = map_over_more let_go old.slots mid.slots k slot inside so.slots (sym (get_or_from_slice_get mid.slots k slot slot at))
 
-  pub released : (is_claimed_at mid k && is_some (object_at mid k)) ≡ true → (new : Table) → new ≡ released_at mid k → count_of new ≡ count_of mid → LetGoTo (k + 1) old new
+  pub released : (is_claimed_at mid k && is_some (object_at mid k)) ≡ true → (new : Table) → new ≡ released_at mid k → count_of new ≡ count_of mid
+      → LetGoTo (k + 1) old new
   released claimed new is same = record {
     slots = ap (λ (table : Table). table.slots) is ∙ here ∙ more;
     count = same ∙ so.count;
   }
     where
       was : slot.is_claimed ≡ true
-      was = sym (ap (λ (o : Option Slot). option_map_or (λ (one : Slot). one.is_claimed) o false) at) ∙ both_left (is_claimed_at mid k) (is_some (object_at mid k)) claimed
+      was =
+          sym (ap (λ (o : Option Slot). option_map_or (λ (one : Slot). one.is_claimed) o false) at)
+          ∙ both_left (is_claimed_at mid k) (is_some (object_at mid k)) claimed
 
       here : changed_at emptied mid k ≡ slice_set mid.slots k (let_go slot)
       here =
