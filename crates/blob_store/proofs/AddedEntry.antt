@@ -297,7 +297,7 @@ module _ (renderer : RendererId) (name : ℕ) (kind : List ℕ) (plan : Plan) (l
       owned = λ pending. own_found page (first_piece old) laid.ranges line;
       unused = λ pending piece past within. (
         unused_past old.shares old.homes piece old.recent past whole.stored.order,
-        unmoved_past old whole piece past (left_of old.pages.job) whole.stored.job,
+        λ none. unmoved_past old whole piece past (left_of old.pages.job) whole.stored.job,
       );
     };
     known = (can.fits, steps_known old.registry page (first_piece old) laid.ranges line can.there);

@@ -25,7 +25,7 @@ use Rattle.blob_entries.specs.declared.entry.Entry.{Entry}
 use Rattle.blob_entries.proofs.Counting.{on_cons}
 use Rattle.blob_entries.proofs.Holdings.{in_at, on_held}
 use Rattle.blob_registry.specs.Sweeps.{dropped, swept}
-use Rattle.page_files.specs.Files.{struck, Files}
+use Rattle.page_files.specs.Files.{struck, Files, source_of}
 use Rattle.page_files.specs.declared.held.Held.{Held}
 use Rattle.page_files.specs.declared.job.Job.{Job}
 use Rattle.quota_queue.specs.Queue.{without as unqueued, Queue}
@@ -77,9 +77,28 @@ flying_all : (piece : ℕ) (freed : List Item) (files : Files) → is_flying pie
 flying_all piece [] files none = none
 flying_all piece (item ∷ freed) files none = flying_all piece freed (let_go_by files item) (flying_item piece item files none)
 
+-- and the job is one of the same kind
+source_struck : (out : PieceNo) (job : Option Job) → source_of (option_map (struck out) job) ≡ source_of job
+source_struck out None = refl
+source_struck out (Some job) = refl
+
+source_item : (item : Item) (files : Files) → source_of (let_go_by files item).job ≡ source_of files.job
+source_item (Memory one bytes) files = source_struck one files.job
+source_item (Paged one page off len) files = source_struck one files.job
+source_item (Reserved one len) files = source_struck one files.job
+source_item (File name stamp off len) files = refl
+source_item (Range slot off len) files = refl
+
+source_all : (freed : List Item) (files : Files) → source_of (fold let_go_by files freed).job ≡ source_of files.job
+source_all [] files = refl
+source_all (item ∷ freed) files = source_all freed (let_go_by files item) ∙ source_item item files
+
 pub unused_still : (piece : ℕ) (freed : List Item) (order : List (ℕ × ℕ)) (files : Files) → IsUnused order files.job piece
     → IsUnused (fold left_by order freed) (fold let_go_by files freed).job piece
-unused_still piece freed order files none = (unused_all piece freed order none.0, flying_all piece freed files none.1)
+unused_still piece freed order files none = (
+  unused_all piece freed order none.0,
+  λ paged. flying_all piece freed files (none.1 (sym (source_all freed files) ∙ paged)),
+)
 
 -- ---- statuses
 

@@ -178,7 +178,7 @@ module _ (old : Parts) (gone : List ℕ) (whole : Whole old) (list : List Held) 
     unused : (piece : ℕ) → IsUnused old.recent old.pages.job piece → IsUnused now.recent now.pages.job piece
     unused piece is = (
       still_absent old.recent piece (λ (used : ℕ × ℕ). not (list_any (λ (number : ℕ). number == used.0) gone)) is.0,
-      never_flies old.recent piece list is.0 (subst (AllByRecursion (WasThere old.recent)) (sym numbers_so) there),
+      λ none. never_flies old.recent piece list is.0 (subst (AllByRecursion (WasThere old.recent)) (sym numbers_so) there),
     )
 
     still : (row : Option Row) (held : Option Entry) → IfSome row (IsAwaited old.limits.page old.recent old.pages.job held)
@@ -253,7 +253,7 @@ some_chosen true list pieces some are = refl
 some_chosen false list [] some are = absurd (some refl)
 some_chosen false list (piece ∷ pieces) some are = absurd (cc are)
 
-none_flies : (job : Option Job) → is_none job ≡ true → job ≡ None
+pub none_flies : (job : Option Job) → is_none job ≡ true → job ≡ None
 none_flies None is = refl
 none_flies (Some job) is = absurd (false_true is)
 

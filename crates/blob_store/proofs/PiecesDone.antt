@@ -1,15 +1,26 @@
--- The pieces that a pass makes the latest are those of the blobs that got done, as the history numbers them, and no job has one of them.
+-- The pieces that a pass makes the latest are those of the blobs that got done, as the history numbers them, and no page job has one of them.
 use Rattle.std.proofs.Common.{◌≡◌, ℕ, zero, suc, ◌+◌, ◌<◌, ◌≤◌, ◌++◌, Bool, true, false, cond, List, [], ◌∷◌, Option, Some, None, length, refl, ap}
-use Rattle.std.proofs.Common.{subst, sym, ◌∙◌, arith}
+use Rattle.std.proofs.Common.{subst, sym, ◌∙◌, arith, ◌==◌, ◌||◌}
 use Rattle.std.specs.Prelude.{filter_map, flat_map, slice_get, slice_index, IfSome, IsSomeAnd}
-use Rattle.std.specs.List.{range_with_len, AllByRecursion}
+use Rattle.std.specs.List.{range_with_len, AllByRecursion, list_any}
 use Rattle.std.specs.Option.{option_map, option_map_or}
 use Rattle.std.proofs.lemmas.List.{length-map}
 use Rattle.std.proofs.lemmas.Option.{get_or_from_slice_get, slice_get-get_or, slice_get-map}
+use Rattle.std.proofs.lemmas.Bool.{eqb-true}
 use Rattle.blob_words.specs.declared.limits.Limits.{Limits}
 use Rattle.blob_words.specs.declared.plan.Plan.{Plan}
+use Rattle.blob_words.specs.declared.number.PageNo.{PageNo}
+use Rattle.blob_words.specs.declared.number.PieceNo.{PieceNo}
 use Rattle.data_handles.specs.Table.{Table as HandleTable}
+use Rattle.item_shares.specs.Shares.{item_at}
+use Rattle.item_shares.specs.declared.item.Item.{Item}
+use Rattle.item_shares.specs.declared.item.Item.TheVariants.{Memory, Paged, Reserved, File, Range}
+use Rattle.item_shares.specs.declared.shares.Share.{Share}
 use Rattle.page_disk.specs.declared.change.Change.{Change}
+use Rattle.page_files.specs.Files.{left_of, source_of}
+use Rattle.page_files.specs.Items.{IsPagedIn, IsPagedOf}
+use Rattle.page_files.specs.declared.held.Held.{Held}
+use Rattle.page_files.specs.declared.page.Page.{Page}
 use Rattle.transport_plan.specs.Spans.{piece_count}
 use Rattle.transport_plan.proofs.SpanLemmas.{pieces_length}
 use Rattle.blob_entries.specs.Book.{entry_at}
@@ -25,7 +36,7 @@ use Rattle.blob_model.specs.History.{History}
 use Rattle.blob_model.specs.Parts.{own_lengths}
 use Rattle.blob_model.specs.Pieces.{planned_spans, spans_of}
 use Rattle.blob_model.specs.Session.{page_limit, Session}
-use Rattle.blob_model.proofs.Lists.{all_append, get_there}
+use Rattle.blob_model.proofs.Lists.{all_append, get_there, false_true}
 use Rattle.registry_laws.specs.Laws.{Describes}
 use Rattle.store_laws.specs.Pageable.{is_flying, pageable_at, pageable_if}
 use Rattle.store_laws.specs.Passing.{done_pieces}
@@ -41,6 +52,7 @@ use Rattle.blob_store.specs.Blobs.{IsAwaited}
 use Rattle.blob_store.specs.Passing.{in_memory, pieces_at, pieces_done, pieces_under, row_pieces, EntriesEnd}
 use Rattle.blob_store.specs.Rows.{pieces_of_row}
 use Rattle.blob_store.specs.Seen.{parts_of, row_of, rows_beside}
+use Rattle.blob_store.specs.Stored.{IsHeld, IsOfJob}
 use Rattle.blob_store.specs.Whole.{Whole}
 use Rattle.blob_store.proofs.EndedList.{named_at, IsEnded}
 use Rattle.blob_store.proofs.PassedEntry.{ended_pending}
@@ -54,6 +66,38 @@ row_beside (held ∷ entries) (one ∷ rows) zero entry row at then =
     let same : one ≡ row = cc then in
     λ i. Some (option_map (λ (each : Entry). row_of (same i)) (at i))
 row_beside (held ∷ entries) (one ∷ rows) (suc k) entry row at then = row_beside entries rows k entry row at then
+
+-- ---- a piece that a job moves is in a page file, and isn't read off its home
+
+module _ (shares : List (Option Share)) (homes : List ℕ) (files : List Page) (items : (slot : ℕ) → IfSome (item_at shares slot) (IsHeld homes files slot))
+    (page : PageNo) where
+  paged_home : (flying : Bool) (held : Held) → IsPagedIn page shares held
+      → pageable_if held.piece.0 flying (item_at shares (slice_index homes held.piece.0)) ≡ None
+  paged_home flying held is = by (item_at shares held.slot) refl is (items held.slot)
+    where
+      by : (found : Option Item) → item_at shares held.slot ≡ found → IsSomeAnd found (IsPagedOf page held) → IfSome found (IsHeld homes files held.slot)
+          → pageable_if held.piece.0 flying (item_at shares (slice_index homes held.piece.0)) ≡ None
+      by None at is there = absurd is
+      by (Some (Memory piece bytes)) at is there = absurd is
+      by (Some (Paged piece one off len)) at is there =
+          let here = get_or_from_slice_get homes held.piece.0 held.slot 0 (ap (λ (number : PieceNo). slice_get homes number.0) (sym is.0) ∙ there.home) in
+          ap (λ (slot : ℕ). pageable_if held.piece.0 flying (item_at shares slot)) here ∙ ap (pageable_if held.piece.0 flying) at
+      by (Some (Reserved piece len)) at is there = absurd is
+      by (Some (File name stamp off len)) at is there = absurd is
+      by (Some (Range handle off len)) at is there = absurd is
+
+  moved_away : (number : ℕ) (flying : Bool) (list : List Held) → AllByRecursion (IsPagedIn page shares) list
+      → list_any (λ (held : Held). held.piece.0 == number) list ≡ true → pageable_if number flying (item_at shares (slice_index homes number)) ≡ None
+  moved_away number flying [] all some = absurd (false_true some)
+  moved_away number flying (held ∷ list) all some = go (held.piece.0 == number) refl some (moved_away number flying list all.1)
+    where
+      go : (b : Bool) → (held.piece.0 == number) ≡ b → (b || list_any (λ (one : Held). one.piece.0 == number) list) ≡ true
+          → (list_any (λ (one : Held). one.piece.0 == number) list ≡ true → pageable_if number flying (item_at shares (slice_index homes number)) ≡ None)
+          → pageable_if number flying (item_at shares (slice_index homes number)) ≡ None
+      go true same some rest =
+          subst (λ (n : ℕ). pageable_if n flying (item_at shares (slice_index homes n)) ≡ None) (eqb-true held.piece.0 number same)
+          (paged_home flying held all.0)
+      go false other some rest = rest some
 
 all_range : (P : ℕ → Type 0) (first count : ℕ) → ((n : ℕ) → first ≤ n → n < first + count → P n) → AllByRecursion P (range_with_len first count)
 all_range P first zero each = tt
@@ -177,13 +221,31 @@ module _ (old new : Parts) (list : List EndedBlob) (whole : Whole old) (ends : E
           ap (own_pieces page h) (known.named ∙ name_is known.place known.entry known.row known.build known.at known.then known.of_blob)
           ∙ pieces_so known.place known.entry known.row known.build known.at known.then known.of_blob ∙ sym (under_so end known)
 
-  -- ---- no job has one of its pieces
+  -- ---- no page job has one of its pieces
 
   abbrev IsRead : ℕ → Type 0
   IsRead number = pageable_at ends.shares old.pages.job (slice_index old.homes) number ≡ in_memory old number
 
   read_so : (number : ℕ) → is_flying number old.pages.job ≡ false → IsRead number
   read_so number none i = pageable_if number (none i) (ends.same.items (slice_index old.homes number) i)
+
+  read_moved : (number : ℕ) (from : PageNo) → source_of old.pages.job ≡ Some from → is_flying number old.pages.job ≡ true → IsRead number
+  read_moved number from moves flies =
+      ap (pageable_if number (is_flying number old.pages.job)) (ends.same.items (slice_index old.homes number))
+      ∙ away (is_flying number old.pages.job) ∙ sym (away false)
+    where
+      away : (flying : Bool) → pageable_if number flying (item_at old.shares (slice_index old.homes number)) ≡ None
+      away flying =
+          moved_away old.shares old.homes old.pages.pages whole.stored.items from number flying (left_of old.pages.job)
+          (subst (λ (source : Option PageNo). AllByRecursion (IsOfJob old.shares source) (left_of old.pages.job)) moves whole.stored.job) flies
+
+  read_unless : (number : ℕ) → (source_of old.pages.job ≡ None → is_flying number old.pages.job ≡ false) → IsRead number
+  read_unless number none = by (is_flying number old.pages.job) refl (source_of old.pages.job) refl
+    where
+      by : (b : Bool) → is_flying number old.pages.job ≡ b → (source : Option PageNo) → source_of old.pages.job ≡ source → IsRead number
+      by false still source at = read_so number still
+      by true flies None at = absurd (false_true (sym (none at) ∙ flies))
+      by true flies (Some from) at = read_moved number from at flies
 
   all_read : (end : EndedBlob) → IsEnded names old.registry.entries new.registry.entries end → AllByRecursion IsRead (pieces_done old end)
   all_read end is = by (is_done end.status) (known_of end is)
@@ -192,7 +254,7 @@ module _ (old new : Parts) (list : List EndedBlob) (whole : Whole old) (ends : E
           → IsAwaited old.limits.page old.recent old.pages.job (Some known.entry) known.row → AllByRecursion IsRead (row_pieces old.limits.page known.row)
       some known fine awaits =
           all_range IsRead known.row.first (pieces_of_row old.limits.page known.row)
-          (λ n from to. read_so n (awaits.unused
+          (λ n from to. read_unless n (awaits.unused
           (ended_pending names old.registry.entries new.registry.entries known.place known.entry fine end.status known.ends_so) n from to).1)
 
       by : (b : Bool) → IsKnown end → AllByRecursion IsRead (cond b (pieces_under old end.name) [])

@@ -20,7 +20,7 @@ use Rattle.blob_entries.specs.Weights.{cut_weight}
 use Rattle.blob_entries.specs.declared.entry.Entry.{Entry}
 use Rattle.blob_entries.specs.declared.step.Step.{Step}
 use Rattle.blob_entries.specs.declared.step.Step.TheVariants.{Own, Fixed, Source}
-use Rattle.page_files.specs.Files.{Files}
+use Rattle.page_files.specs.Files.{source_of, Files}
 use Rattle.page_files.specs.declared.job.Job.{Job}
 use Rattle.quota_queue.specs.Queue.{Queue}
 use Rattle.recent_items.specs.Recent.{is_there}
@@ -84,9 +84,9 @@ Comes status own Waiting = (status ≡ PendingQuota) × (own ≡ None)
 Comes status own (Gathering segments) = (status ≡ PendingTransport) × (own ≡ None)
 Comes status own (Writing slots came) = (status ≡ PendingTransport) × (own ≡ None)
 
--- a piece is neither in the order of use nor in the job in flight
+-- a piece is neither in the order of use nor in a page job in flight; one that is in a page file may be moved out of it
 abbrev pub IsUnused : List (ℕ × ℕ) → Option Job → ℕ → Type 0
-IsUnused order job piece = (is_there piece order ≡ false) × (is_flying piece job ≡ false)
+IsUnused order job piece = (is_there piece order ≡ false) × (source_of job ≡ None → is_flying piece job ≡ false)
 
 -- the same of the pieces of a blob
 abbrev pub AreUnused : ℕ → List (ℕ × ℕ) → Option Job → Row → Type 0
