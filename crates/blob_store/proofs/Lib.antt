@@ -96,3 +96,4 @@ pub mod SeenGranted
 pub mod PageJobs
 pub mod JobsWhole
 pub mod LettingGo
+pub mod Compactions

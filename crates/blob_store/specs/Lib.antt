@@ -31,3 +31,4 @@ pub mod Telling
 pub mod Granting
 pub mod Paging
 pub mod Closing
+pub mod Compacting

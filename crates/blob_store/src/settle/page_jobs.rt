@@ -16,7 +16,7 @@ use item_shares::Item;
 use recent_items::Recent;
 
 // How many jobs a store starts at most.
-const MOST_JOBS: u32 = 1 << 31;
+pub const MOST_JOBS: u32 = 1 << 31;
 
 // These pieces are in the order of use no more.
 fn leave_all(recent: &mut Recent, pieces: &[PieceNo])
