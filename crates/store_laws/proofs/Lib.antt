@@ -113,3 +113,6 @@ pub mod GrantedParts
 pub mod Granting
 pub mod PageMoves
 pub mod Compactions
+pub mod MarkedBytes
+pub mod Marking
+pub mod MarkedDead

@@ -51,3 +51,4 @@ pub mod LateJobs
 pub mod LateLaws
 pub mod Granting
 pub mod Compacting
+pub mod Marking
