@@ -35,6 +35,7 @@ use Rattle.blob_model.specs.Waits.{is_waiting}
 use Rattle.blob_model.proofs.Lists.{false_true, filter_short}
 use Rattle.blob_model.proofs.builds.Plans.{IsPlanned}
 use Rattle.store_laws.specs.Cells.{denoted, piece_cell, piece_in}
+use Rattle.store_laws.specs.Marking.{lacks}
 use Rattle.store_laws.specs.Outlines.{status_now}
 use Rattle.store_laws.specs.Recipes.{IsEntryFor, IsStep, StandsFor, own_numbers, own_step_cells}
 use Rattle.store_laws.proofs.ComingNow.{granted_shared, waits_shared, waits_ungranted}
@@ -62,11 +63,11 @@ some_piece page from (suc n ∷ lens) sized some =
 
 module _ (s : Session) (h : History) (build : Build) where
   some_span : has_all s.limits h build ≡ false → 0 < length (spans s.limits build)
-  some_span lacks =
+  some_span missing_some =
       let few = filter_short (λ (segment : ℕ). not (has_come (arrivals h build.name) segment)) (range_with_len 0 (length (spans s.limits build))) in
       let long = length-range_with_len 0 (length (spans s.limits build)) in
       let some = eqb-false (length (filter (λ (segment : ℕ). not (has_come (arrivals h build.name) segment)) (range_with_len 0
-      (length (spans s.limits build))))) 0 lacks in
+      (length (spans s.limits build))))) 0 missing_some in
       go (length (spans s.limits build)) (length (filter (λ (segment : ℕ). not (has_come (arrivals h build.name) segment)) (range_with_len 0
       (length (spans s.limits build))))) (omega (arith, few, long)) some
     where
@@ -99,7 +100,7 @@ module _ (s : Session) (h : History) (build : Build) where
           absurd (omega (arith, some, many, none, zero_so))
 
   pub has_pieces : has_all s.limits h build ≡ false → 0 < length (spans_of (page_limit s) build)
-  has_pieces lacks = some_of_plan build.plan refl (some_span lacks)
+  has_pieces missing_some = some_of_plan build.plan refl (some_span missing_some)
 
   -- ---- a blob that doesn't wait has its room
 
@@ -170,19 +171,19 @@ module _ (s : Session) (h : History) (whole : List Build) (all : List Piece) (sh
       brought entry.own refl (subst (λ (status : Status). StandsFor whole all shares build.cells status entry) is fine.stands).2
 
   lacks_bytes : entry.status ≡ statuses.PendingTransport → has_all s.limits h build ≡ false → misses entry ≡ true
-  lacks_bytes is lacks =
+  lacks_bytes is missing_some =
       let none : entry.own ≡ None = (subst (λ (status : Status). StandsFor whole all shares build.cells status entry) is fine.stands).2 in
-      let some = has_pieces s h build lacks in
+      let some = has_pieces s h build missing_some in
       let many = cut.many in
       let same = ap (λ (list : List ℕ). length list) (fine.owned pending) in
       ap (λ (o : Option (List View)). is_none o && list_any is_own entry.recipe) none ∙ has_own entry.recipe (omega (arith, some, many, same))
 
+  room : is_waiting h build ≡ false → is_granted h build ≡ true
+  room free = roomy s h build build.plan refl cut.broke cut.planned begun free
+
   pub bytes_agree : (is_granted_status entry.status && not (misses entry)) ≡ (is_granted h build && has_all s.limits h build)
   bytes_agree = by (is_waiting h build) (has_all s.limits h build) refl refl waits_for
     where
-      room : is_waiting h build ≡ false → is_granted h build ≡ true
-      room free = roomy s h build build.plan refl cut.broke cut.planned begun free
-
       by : (a b : Bool) → is_waiting h build ≡ a → has_all s.limits h build ≡ b
           → entry.status ≡ cond a statuses.PendingQuota (cond b statuses.PendingReferencedBlobs statuses.PendingTransport)
           → (is_granted_status entry.status && not (misses entry)) ≡ (is_granted h build && has_all s.limits h build)
@@ -191,5 +192,17 @@ module _ (s : Session) (h : History) (whole : List Build) (all : List Piece) (sh
           ∙ sym (ap (λ (c : Bool). c && has_all s.limits h build) (waits_ungranted s h build build.plan refl waits))
       by false true free segments is =
           (λ i. is_granted_status (is i) && not (has_bytes is i)) ∙ sym (λ i. room free i && segments i)
-      by false false free lacks is =
-          (λ i. is_granted_status (is i) && not (lacks_bytes is lacks i)) ∙ sym (λ i. room free i && lacks i)
+      by false false free none is =
+          (λ i. is_granted_status (is i) && not (lacks_bytes is none i)) ∙ sym (λ i. room free i && none i)
+
+  -- whether they are still to come is what the status says
+  pub lacks_agree : lacks entry.status ≡ not (is_granted h build && has_all s.limits h build)
+  lacks_agree = by (is_waiting h build) (has_all s.limits h build) refl refl waits_for
+    where
+      by : (a b : Bool) → is_waiting h build ≡ a → has_all s.limits h build ≡ b
+          → entry.status ≡ cond a statuses.PendingQuota (cond b statuses.PendingReferencedBlobs statuses.PendingTransport)
+          → lacks entry.status ≡ not (is_granted h build && has_all s.limits h build)
+      by true b waits segments is =
+          ap lacks is ∙ sym (ap (λ (c : Bool). not (c && has_all s.limits h build)) (waits_ungranted s h build build.plan refl waits))
+      by false true free segments is = ap lacks is ∙ sym (λ i. not (room free i && segments i))
+      by false false free none is = ap lacks is ∙ sym (λ i. not (room free i && none i))

@@ -38,7 +38,7 @@ use Rattle.store_laws.specs.Recipes.{EntryStands, IsEntryFor, StandsFor}
 use Rattle.store_laws.specs.Stands.{Between, Parts}
 use Rattle.store_laws.specs.Uses.{own_pieces}
 use Rattle.store_laws.proofs.Dying.{turned}
-use Rattle.store_laws.proofs.MarkedBytes.{bytes_agree, IsCut}
+use Rattle.store_laws.proofs.MarkedBytes.{lacks_agree, IsCut}
 use Rattle.store_laws.proofs.Marking.{agree_now, begun, caused_now, clear_line, cut_now, ends_now, kept_when_settled, right_marks, unwritten_clear}
 use Rattle.store_laws.proofs.Marking.{IsClear, IsKept}
 use Rattle.store_laws.proofs.Paired.{AreOutlined, IsTold, by_first, first_of, rest_of}
@@ -131,8 +131,8 @@ module _ (s : Session) (h : History) (renderer : RendererId) where
         left_so : is_pending entry.status ≡ true → is_left renderer.0 entry ≡ is_deserted s dead build
         left_so pending =
             let begun_so = begun s dead stands whole all shares own ends build entry tells pending in
-            let bytes = bytes_agree s dead whole all shares own build cut entry fine (ap (λ (o : Outline). o.status) tells.outline_is) pending begun_so in
-            (λ i. ((tells.outline_is i).owner == renderer.0) && (pending i && is_none (none pending i) && not (bytes i))) ∙ deserted_so build kept begun_so
+            let short = lacks_agree s dead whole all shares own build cut entry fine (ap (λ (o : Outline). o.status) tells.outline_is) pending begun_so in
+            (λ i. ((tells.outline_is i).owner == renderer.0) && (is_none (none pending i) && short i)) ∙ deserted_so build kept begun_so
 
         breaks : (b : Bool) → is_left renderer.0 entry ≡ b → is_pending entry.status ≡ true
             → first_that ((false, statuses.FileWriteFailed) ∷ (b, statuses.SourceDied) ∷ []) ≡ breaks_as s dead build

@@ -1,8 +1,9 @@
 -- When the marks of entries agree with what their blobs break as, behind a line's own answers. Own.
-use Rattle.std.specs.Prelude.{ℕ, ◌≡◌, ◌==◌, ◌&&◌, ◌||◌, Bool, false, true, not, List, [], ◌∷◌, map, Option, None, Some, is_none, if◌then◌else◌}
+use Rattle.std.specs.Prelude.{ℕ, ◌≡◌, ◌==◌, ◌&&◌, ◌||◌, Bool, false, true, List, [], ◌∷◌, map, Option, None, Some, is_none, if◌then◌else◌}
 use Rattle.std.specs.List.{list_any}
 use Rattle.std.specs.Option.{option_map}
 use Rattle.blob_words.specs.declared.number.RendererId.{RendererId}
+use Rattle.blob_words.specs.declared.status.Status.{Status}
 use Rattle.blob_words.specs.declared.status.Status.TheVariants as statuses
 use Rattle.session_script.specs.declared.event.Event.{Event}
 use Rattle.session_script.specs.declared.event.Event.TheVariants as events
@@ -11,7 +12,6 @@ use Rattle.answer_text.specs.declared.answer.Answer.TheVariants as answers
 use Rattle.answer_text.specs.declared.group.Group.{Group}
 use Rattle.blob_entries.specs.Book.{book_of}
 use Rattle.blob_entries.specs.Changes.{with_mark}
-use Rattle.blob_entries.specs.Endings.{is_granted_status, misses}
 use Rattle.blob_entries.specs.Statuses.{is_pending}
 use Rattle.blob_entries.specs.declared.entry.Entry.{Entry}
 use Rattle.data_handles.specs.Table.{Table as HandleTable}
@@ -57,11 +57,17 @@ HasMark s h build (Some entry) = is_pending entry.status ≡ true → entry.mark
 abbrev pub HaveMarks : Session → History → List (Option Entry) → Type 0
 HaveMarks s h entries = Beside (HasMark s h) (builds (page_limit s) h) entries
 
--- an unfinished entry that isn't marked, and that misses bytes or room
-abbrev pub is_short : Entry → Bool
-is_short entry = is_pending entry.status && is_none entry.mark && not (is_granted_status entry.status && not (misses entry))
+-- the status of a blob whose bytes or room are still to come
+abbrev pub lacks : Status → Bool
+lacks statuses.PendingQuota = true
+lacks statuses.PendingTransport = true
+lacks status = false
 
--- this renderer was to send them
+-- an entry of such a blob that isn't marked
+abbrev pub is_short : Entry → Bool
+is_short entry = is_none entry.mark && lacks entry.status
+
+-- its builder was to send them, and is this renderer
 abbrev pub is_left : ℕ → Entry → Bool
 is_left renderer entry = (entry.owner.0 == renderer) && is_short entry
 
