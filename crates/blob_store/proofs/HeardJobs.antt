@@ -19,7 +19,7 @@ use Rattle.blob_model.specs.Refusals.{refusal}
 use Rattle.blob_model.specs.Session.{page_limit, Session}
 use Rattle.store_laws.specs.Stands.{Stands}
 use Rattle.store_laws.proofs.LineRefusals.{own_accepted}
-use Rattle.store_laws.proofs.Losing.{job_lines_stand}
+use Rattle.store_laws.proofs.JobLines.{job_lines_stand}
 use Rattle.store_laws.proofs.Unmarked.{none_marked}
 use Rattle.blob_store.specs.declared.parts.Parts.{Parts}
 use Rattle.blob_store.specs.declared.row.Row.{Row}

@@ -51,11 +51,11 @@ use Rattle.store_laws.proofs.Unmarked.{unmarked_right}
 
 -- ---- lists
 
-listed_names : (list : List Held) → names list ≡ piece_list (held_numbers list)
+pub listed_names : (list : List Held) → names list ≡ piece_list (held_numbers list)
 listed_names [] = refl
 listed_names (held ∷ list) = ap (λ (more : List PieceNo). held.piece ∷ more) (listed_names list)
 
-numbers_names : (list : List Held) → numbers (names list) ≡ held_numbers list
+pub numbers_names : (list : List Held) → numbers (names list) ≡ held_numbers list
 numbers_names [] = refl
 numbers_names (held ∷ list) = ap (λ (more : List ℕ). held.piece.0 ∷ more) (numbers_names list)
 

@@ -78,6 +78,10 @@ pub mod Ended
 pub mod OwnNumbers
 pub mod PiecesEntered
 pub mod Losing
+pub mod JobOrder
+pub mod Replies
+pub mod JobFails
+pub mod JobLines
 pub mod ToldPages
 pub mod Staying
 pub mod Claiming

@@ -231,9 +231,8 @@ module _ (s : Session) (h : History) (stands : ℕ → Bool) (book : Book) (shar
       let later = sum_lengths list each.1 in
       omega (arith, here, later, sum_by-cons (λ (one : Held). one.len) held list, sum_by-cons (length_in all) held.piece.0 (held_numbers list))
 
-  pub job_charged : held_bytes (left_of files.job) ≡ sum_by (length_in all) (job_left_in h (reached (page_limit s) h))
-  job_charged = sum_lengths (left_of files.job) contents.page_files_stand.job_lengths ∙ ap (sum_by (length_in all))
-      (go files.job (in_flight h) refl contents.page_files_stand.job)
+  pub job_numbers : held_numbers (left_of files.job) ≡ job_left_in h (reached (page_limit s) h)
+  job_numbers = go files.job (in_flight h) refl contents.page_files_stand.job
     where
       go : (one : Option FlyingJob) (flying : Option Job) → in_flight h ≡ flying → option_map job_as one ≡ option_map (with_held (holds_piece shares)) flying
           → held_numbers (left_of one) ≡ option_map_or (λ (job : Job). filter (λ (number : ℕ). list_any (λ (piece : Piece). piece.number == number)
@@ -244,6 +243,9 @@ module _ (s : Session) (h : History) (stands : ℕ → Bool) (book : Book) (shar
       go (Some one) (Some job) at e =
           let same : job_as one ≡ with_held (holds_piece shares) job = cc in
           ap (λ (j : Job). j.pieces) same ∙ sym (filter_named job at job.pieces (λ number there. there))
+
+  pub job_charged : held_bytes (left_of files.job) ≡ sum_by (length_in all) (job_left_in h (reached (page_limit s) h))
+  job_charged = sum_lengths (left_of files.job) contents.page_files_stand.job_lengths ∙ ap (sum_by (length_in all)) job_numbers
 
   -- ---- items in page files
 

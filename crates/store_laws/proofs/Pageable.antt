@@ -69,7 +69,7 @@ module _ (q : Piece → Bool) (number : ℕ) where
 
 -- ---- the job in flight
 
-numbers_any : (number : ℕ) (list : List Held) → list_any (λ (named : ℕ). named == number) (held_numbers list)
+pub numbers_any : (number : ℕ) (list : List Held) → list_any (λ (named : ℕ). named == number) (held_numbers list)
     ≡ list_any (λ (held : Held). held.piece.0 == number) list
 numbers_any number [] = refl
 numbers_any number (held ∷ list) = ap (λ (b : Bool). (held.piece.0 == number) || b) (numbers_any number list)
@@ -91,7 +91,7 @@ filter_any test number passes (named ∷ list) = go (test named) refl (filter_an
         by true at = absurd (false_true (sym is ∙ ap test (eqb-true named number at) ∙ passes))
         by false at = rest
 
-flies : (number : ℕ) (job : Option Job) (flying : Option JobSaid) (held : ℕ → Bool) → held number ≡ true
+pub flies : (number : ℕ) (job : Option Job) (flying : Option JobSaid) (held : ℕ → Bool) → held number ≡ true
     → option_map job_as job ≡ option_map (with_held held) flying
     → option_map_or (λ (one : JobSaid). list_any (λ (named : ℕ). named == number) one.pieces) flying false ≡ is_flying number job
 flies number None None held has same = refl
