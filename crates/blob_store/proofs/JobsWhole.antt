@@ -1,5 +1,5 @@
 -- The parts agree once a page job has started, and it is told as the history calls for.
-use Rattle.std.proofs.Common.{◌≡◌, ◌≢◌, ℕ, zero, suc, ◌+◌, ◌<◌, ◌≤◌, ◌==◌, not, ◌&&◌, ◌||◌, Bool, true, false, cond, List, [], ◌∷◌, ◌++◌, map, length}
+use Rattle.std.proofs.Common.{◌≡◌, ◌≢◌, ℕ, zero, suc, ◌+◌, ◌<◌, ◌≤◌, ◌==◌, not, ◌&&◌, ◌||◌, Bool, true, false, cond, List, [], ◌∷◌, ◌++◌, length}
 use Rattle.std.proofs.Common.{refl, ap, sym, subst}
 use Rattle.std.proofs.Common.{◌∙◌, append-nil, arith, min, nat_eq, nat_lt, Option, Some, None}
 use Rattle.std.specs.Prelude.{is_none, slice_get, IfSome, IsSomeAnd}
@@ -39,10 +39,9 @@ use Rattle.blob_model.proofs.Lists.{false_true, filter_all, for_each, or_first, 
 use Rattle.model_bridges.specs.Bridges.{held_numbers}
 use Rattle.store_laws.specs.Items.{item_length}
 use Rattle.store_laws.specs.Late.{IsLate}
-use Rattle.store_laws.specs.LateJobs.{without_all, with_page_job}
+use Rattle.store_laws.specs.LateJobs.{without_all}
 use Rattle.store_laws.specs.LateLaws.{IsSwept}
 use Rattle.store_laws.specs.LateLists.{taken}
-use Rattle.store_laws.specs.Pageable.{is_flying}
 use Rattle.store_laws.specs.Stands.{Reaches}
 use Rattle.store_laws.proofs.JobStarts.{all_numbers, all_victims, page_jobs_stand}
 use Rattle.store_laws.proofs.LateLists.{page_jobs_are_told}

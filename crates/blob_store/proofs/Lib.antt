@@ -97,3 +97,4 @@ pub mod PageJobs
 pub mod JobsWhole
 pub mod LettingGo
 pub mod Compactions
+pub mod Settled

@@ -24,7 +24,7 @@ use Rattle.model_bridges.specs.Bridges.{held_numbers}
 use Rattle.store_laws.specs.LateJobs.{without_all}
 use Rattle.store_laws.proofs.Letting.{filter_same, filter_twice}
 use Rattle.store_laws.proofs.JobStarts.{all_enough, all_numbers, all_victims, all_within}
-use Rattle.blob_store.specs.Paging.{earliest, lacking, AreAtHome, AreLong, CanStart, IsAtHome, IsHere, IsLong, IsPiece}
+use Rattle.blob_store.specs.Paging.{earliest, lacking, AreAtHome, CanStart, IsAtHome, IsHere, IsLong, IsPiece}
 use Rattle.blob_store.specs.Stored.{IsInMemory, IsMemory}
 use Rattle.blob_store.specs.declared.parts.Parts.{Parts}
 

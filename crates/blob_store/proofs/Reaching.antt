@@ -1,7 +1,7 @@
 -- Parts that are whole keep what reaching asks, where they stand behind the late drops of a line.
-use Rattle.std.proofs.Common.{◌≡◌, ℕ, suc, zero, ◌+◌, ◌<◌, ◌==◌, Bool, true, false, cond, List, [], ◌∷◌, map, length, get_or, refl, ap, sym, subst, ◌∙◌, arith}
+use Rattle.std.proofs.Common.{◌≡◌, ℕ, suc, zero, ◌+◌, ◌==◌, Bool, true, false, cond, List, [], ◌∷◌, map, length, get_or, refl, ap, sym, subst, ◌∙◌, arith}
 use Rattle.std.proofs.Common.{Option, Some, None}
-use Rattle.std.specs.Prelude.{slice_get, IfSome, if◌then◌else◌, sum_by}
+use Rattle.std.specs.Prelude.{slice_get, IfSome, sum_by}
 use Rattle.std.specs.Option.{option_map}
 use Rattle.std.specs.List.{list_any}
 use Rattle.std.proofs.lemmas.List.{length-map}
@@ -13,8 +13,7 @@ use Rattle.item_shares.specs.declared.item.Item.{Item}
 use Rattle.item_shares.specs.declared.item.Item.TheVariants.{Memory, Paged, Reserved, File, Range}
 use Rattle.item_shares.specs.declared.shares.Share.{Share}
 use Rattle.page_disk.specs.declared.change.Change.{Change}
-use Rattle.page_files.specs.Pages.{page_at, pieces_at, pieces_of}
-use Rattle.page_files.specs.declared.held.Held.{Held}
+use Rattle.page_files.specs.Pages.{pieces_at, pieces_of}
 use Rattle.page_files.specs.declared.page.Page.{Page}
 use Rattle.page_files.specs.declared.page.Page.TheVariants.{Torn, Whole as WholePage, Asked}
 use Rattle.transport_plan.specs.Spans.{piece_count}
@@ -27,10 +26,10 @@ use Rattle.blob_model.proofs.Lists.{false_true}
 use Rattle.store_laws.specs.AgreeLaws.{IsKept}
 use Rattle.store_laws.specs.Late.{IsLate}
 use Rattle.store_laws.specs.LateLaws.{AreUnheld, IsSwept, IsUnheld}
-use Rattle.store_laws.specs.Outlines.{outline, outlines_of}
-use Rattle.store_laws.specs.PageFiles.{gone, holds_paged, placed_from, sheet, sheet_of, sheets_from, torn, whole, writes, Sheet}
+use Rattle.store_laws.specs.Outlines.{outline}
+use Rattle.store_laws.specs.PageFiles.{gone, holds_paged, placed_from, sheet, sheet_of, sheets_from, torn, whole, writes}
 use Rattle.store_laws.specs.PageLaws.{IsUnasked}
-use Rattle.store_laws.specs.Rows.{gathers, Row as RowSaid}
+use Rattle.store_laws.specs.Rows.{gathers}
 use Rattle.store_laws.specs.Stands.{Reaches}
 use Rattle.store_laws.proofs.ReachesFollow.{late_keeps}
 use Rattle.blob_store.specs.declared.parts.Parts.{Parts}
@@ -39,7 +38,7 @@ use Rattle.blob_store.specs.declared.row.Sending.{Sending}
 use Rattle.blob_store.specs.declared.row.Sending.TheVariants.{Settled, Waiting, Gathering, Writing}
 use Rattle.blob_store.specs.Rows.{pieces_to_come}
 use Rattle.blob_store.specs.Seen.{coming_of, parts_of, row_of, rows_beside}
-use Rattle.blob_store.specs.Stored.{IsListed, RowStored, IsHeld}
+use Rattle.blob_store.specs.Stored.{RowStored, IsHeld}
 use Rattle.blob_store.specs.Whole.{Whole}
 use Rattle.blob_store.proofs.Beside.{counts_said, used_said}
 

@@ -1,5 +1,6 @@
 -- The parts agree once the removal of a page that was due was asked for, and removals are told one after the other.
-use Rattle.std.proofs.Common.{◌≡◌, ◌≢◌, ℕ, suc, zero, ◌+◌, ◌<◌, ◌==◌, Bool, true, false, List, [], ◌∷◌, ◌++◌, map, length, get_or, set, refl, ap, sym, subst, ◌∙◌, cond, ◌&&◌}
+use Rattle.std.proofs.Common.{◌≡◌, ℕ, suc, zero, ◌<◌, ◌==◌, Bool, true, false, List, [], ◌∷◌, ◌++◌, map, length, get_or, set, refl, ap, sym, subst}
+use Rattle.std.proofs.Common.{◌∙◌, cond, ◌&&◌}
 use Rattle.std.proofs.Common.{Option, Some, None, arith, append_assoc, append-nil}
 use Rattle.std.specs.Prelude.{IfSome}
 use Rattle.std.specs.List.{count_by, list_any, position, AllByRecursion}
@@ -14,7 +15,7 @@ use Rattle.item_shares.specs.declared.item.Item.{Item}
 use Rattle.item_shares.specs.declared.item.Item.TheVariants.{Memory, Paged, Reserved, File, Range}
 use Rattle.page_disk.specs.Changes.{with_change}
 use Rattle.page_disk.specs.declared.change.Change.{Change}
-use Rattle.page_files.specs.Files.{asked, page_no, removal, source_of, Files}
+use Rattle.page_files.specs.Files.{asked, page_no, removal, Files}
 use Rattle.page_files.specs.Items.{IsPagedIn}
 use Rattle.page_files.specs.Pages.{is_due, pieces_at, pieces_of}
 use Rattle.page_files.specs.declared.held.Held.{Held}
@@ -30,7 +31,7 @@ use Rattle.store_laws.proofs.Removing.{removals_stand}
 use Rattle.blob_store.specs.declared.parts.Parts.{Parts}
 use Rattle.blob_store.specs.Says.{scene, Scene}
 use Rattle.blob_store.specs.Seen.{parts_of}
-use Rattle.blob_store.specs.Stored.{IsHeld, IsHome, IsListed}
+use Rattle.blob_store.specs.Stored.{IsHeld, IsListed}
 use Rattle.blob_store.specs.Telling.{SaysMore}
 use Rattle.blob_store.specs.Whole.{Whole}
 use Rattle.blob_store.proofs.Reaching.{late_kept}

@@ -3,7 +3,6 @@ use Rattle.std.proofs.Common.{◌≡◌, ℕ, ◌+◌, ◌<◌, ◌≤◌, Bool,
 use Rattle.std.proofs.Common.{◌∙◌, arith}
 use Rattle.std.specs.Prelude.{count_by, option_and_then, slice_get, slice_index, sum, IfSome, IsSomeAnd}
 use Rattle.std.specs.Option.{option_map, option_map_or}
-use Rattle.blob_words.specs.declared.plan.Plan.TheVariants as plans
 use Rattle.blob_words.specs.declared.status.Status.TheVariants.{PendingQuota, PendingTransport}
 use Rattle.blob_entries.specs.Book.{Book, changed, changed_at, entry_at, entry_of}
 use Rattle.blob_entries.specs.Changes.{with_status}

@@ -32,3 +32,4 @@ pub mod Granting
 pub mod Paging
 pub mod Closing
 pub mod Compacting
+pub mod Settling

@@ -1,5 +1,6 @@
 //! One file a list of settling: what is owed after a line, and its answers.
 
+mod all;
 mod compactions;
 mod drops;
 mod endings;

@@ -1,11 +1,11 @@
 -- One page after the other is asked for and told, and then none is due.
-use Rattle.std.proofs.Common.{◌<◌, refl, sym, ap, subst, ◌∙◌, arith}
+use Rattle.std.proofs.Common.{◌<◌, sym, subst, ◌∙◌, arith}
 use Rattle.std.specs.List.{count_by}
 use Rattle.page_files.specs.Files.{Files}
 use Rattle.page_files.specs.Pages.{is_due}
 use Rattle.blob_store.specs.Telling.{Removes}
 use Rattle.blob_store.specs.Says.{scene}
-use Rattle.blob_store.specs.Whole.{IsWhole, Whole}
+use Rattle.blob_store.specs.Whole.{Whole}
 use Rattle.blob_store.proofs.RemovedPages.{fewer_due, none_more, one_more, whole_removed}
 use Rattle.blob_store.proofs.parts.Parts.remove_pages.Goals as goal
 
