@@ -81,6 +81,9 @@ pub mod Losing
 pub mod JobOrder
 pub mod Replies
 pub mod JobFails
+pub mod Turned
+pub mod NextPage
+pub mod JobWrites
 pub mod JobLines
 pub mod ToldPages
 pub mod Staying

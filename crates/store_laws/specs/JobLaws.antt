@@ -1,5 +1,6 @@
 -- What lines leave that end the job in flight. Own.
-use Rattle.std.specs.Prelude.{ℕ, ◌≡◌, ◌≢◌, true, Bool, List, [], ◌∷◌, length, Option, None, Some, if◌then◌else◌}
+use Rattle.std.specs.Prelude.{ℕ, ◌≡◌, ◌≢◌, ◌==◌, false, true, nat_eq, Bool, List, [], ◌∷◌, length, Option, None, Some, if◌then◌else◌}
+use Rattle.std.specs.List.{list_any, AllByRecursion, IsDistinct}
 use Rattle.answer_text.specs.declared.answer.Answer.TheVariants as answers
 use Rattle.answer_text.specs.declared.group.Group.{Group}
 use Rattle.answer_text.specs.declared.refusal.Refusal.{Refusal}
@@ -8,21 +9,27 @@ use Rattle.blob_entries.specs.Book.{Book}
 use Rattle.blob_words.specs.declared.number.JobNo.{JobNo}
 use Rattle.blob_words.specs.declared.number.PageNo.{PageNo}
 use Rattle.data_handles.specs.Table.{Table as HandleTable}
+use Rattle.item_shares.specs.Shares.{share_at}
 use Rattle.item_shares.specs.declared.shares.Share.{Share}
+use Rattle.model_bridges.specs.Bridges.{held_numbers}
 use Rattle.page_disk.specs.Changes.{with_change}
 use Rattle.page_disk.specs.declared.change.Change.{Change}
 use Rattle.page_disk.specs.declared.change.Change.TheVariants as changes
 use Rattle.page_files.specs.Files.{is_in_flight, left_of, page_no, source_of, turned_off, with_page, without_job, Files}
-use Rattle.page_files.specs.Pieces.{names}
-use Rattle.page_files.specs.declared.page.Page.TheVariants.{Torn}
+use Rattle.page_files.specs.Items.{bytes_in, turned, IsMemoryIn}
+use Rattle.page_files.specs.Pieces.{bytes_of, names, placed}
+use Rattle.page_files.specs.declared.page.Page.{Page as FilePage}
+use Rattle.page_files.specs.declared.page.Page.TheVariants.{Torn, Whole}
 use Rattle.quota_queue.specs.Queue.{Queue}
 use Rattle.session_script.specs.declared.event.Event.TheVariants as events
 use Rattle.blob_model.specs.History.{heard, history_from, start, History}
 use Rattle.blob_model.specs.Legal.{IsLegalFrom}
 use Rattle.blob_model.specs.Own.{IsAccepted}
+use Rattle.blob_model.specs.Pages.{asked}
 use Rattle.blob_model.specs.Refusals.{refusal}
 use Rattle.blob_model.specs.Session.{page_limit, Session}
 use Rattle.store_laws.specs.AgreeLaws.{IsKept}
+use Rattle.store_laws.specs.LateJobs.{without_all}
 use Rattle.store_laws.specs.LineLaws.{counted}
 use Rattle.store_laws.specs.ReachLaws.{IsAtRest}
 use Rattle.store_laws.specs.Rows.{Row}
@@ -89,6 +96,47 @@ UnreadStands = WhereStanding (λ s h stands parts told table.
     (job : JobNo) → is_in_flight job parts.pages.job ≡ true → (page : PageNo)
     → Between s (heard h (events.Disk job) (answers.MoveUnread job page)) stands (counted (record parts { pages = turned_off parts.pages })) told table)
 
+-- ---- a write that succeeds
+
+abbrev pub next_number : Files → PageNo
+next_number files = page_no (length files.pages)
+
+-- no page file of the next number was asked for, as in a legal transcript
+abbrev pub IsNextUnasked : History → Files → Type 0
+IsNextUnasked h files = list_any (λ (each : ℕ). each == length files.pages) (asked h) ≡ false
+
+abbrev pub NextIsUnasked : Type 0
+NextIsUnasked =
+    (s : Session) (groups : List Group) (stands : ℕ → Bool) (parts : Parts) (told : Option (List Change)) (table : HandleTable) → IsLegalFrom s start groups
+    → Between s (history_from start groups) stands parts told table → IsNextUnasked (history_from start groups) parts.pages
+
+-- the pieces left in a job, one after the other in the next page file
+abbrev pub next_file : Files → FilePage
+next_file files = Whole (bytes_of (left_of files.job)) (placed 0 (left_of files.job))
+
+-- each item of them says so, and every other slot is as it was
+abbrev pub AreTurned : Files → List (Option Share) → List (Option Share) → Type 0
+AreTurned files shares now =
+    (slot : ℕ) → share_at now slot ≡ turned (next_number files) (placed 0 (left_of files.job)) slot (share_at shares slot)
+
+-- the parts once they are there; they are in the order of use no more
+abbrev pub paged_parts : List (Option Share) → Parts → Parts
+paged_parts now parts = record parts {
+  shares = now;
+  pages = with_page (next_file parts.pages) (without_job parts.pages);
+  recent = without_all (held_numbers (left_of parts.pages.job)) parts.recent;
+}
+
+-- a page job ends with a write: its pieces were in memory, and no two of them are one
+abbrev pub PagedStands : Type 0
+PagedStands = WhereStanding (λ s h stands parts told table.
+    (job : JobNo) → is_in_flight job parts.pages.job ≡ true → IsNextUnasked h parts.pages
+    → IsDistinct nat_eq (held_numbers (left_of parts.pages.job)) → AllByRecursion (IsMemoryIn parts.shares) (left_of parts.pages.job)
+    → (now : List (Option Share)) → AreTurned parts.pages parts.shares now
+    → Between s (heard h (events.Disk job) (answers.Paged job (next_number parts.pages) (names (left_of parts.pages.job)))) stands
+    (counted (paged_parts now parts))
+    (with_change (changes.Put (next_number parts.pages) (bytes_in parts.shares (left_of parts.pages.job))) told) table)
+
 -- the refusals of the lines are read off the parts, so are the replies, and the parts stand for the history with the line
 pub record JobLinesStand : Type 0 where
   pub lost_refusals : (s : Session) (h : History) (stands : ℕ → Bool) (parts : Parts) (told : Option (List Change)) (table : HandleTable)
@@ -101,3 +149,5 @@ pub record JobLinesStand : Type 0 where
   pub page_failing : PageFailStands
   pub move_failing : MoveFailStands
   pub unread : UnreadStands
+  pub next_unasked : NextIsUnasked
+  pub paging : PagedStands
