@@ -208,18 +208,22 @@ piece_in_slot shares held is = by (item_at shares held.slot) is
 slots_apart : (shares : List (Option Share)) (list : List Held) → IsDistinct nat_eq (held_numbers list) → AllByRecursion (IsIn shares) list
     → AreSlotsApart list
 slots_apart shares [] apart are = tt
-slots_apart shares (held ∷ list) apart are =
-    (others list (IsDistinct-head nat_eq held.piece.0 (held_numbers list) apart) are.1, slots_apart shares list
-    (IsDistinct-tail nat_eq held.piece.0 (held_numbers list) apart) are.1)
+slots_apart shares (held ∷ list) apart are = (
+  others list (IsDistinct-head nat_eq held.piece.0 (held_numbers list) apart) are.1,
+  slots_apart shares list
+      (IsDistinct-tail nat_eq held.piece.0 (held_numbers list) apart) are.1,
+)
   where
     others : (rest : List Held) → AllByRecursion (λ (other : ℕ). nat_eq held.piece.0 other ≡ false) (held_numbers rest)
         → AllByRecursion (IsIn shares) rest → AllByRecursion (λ (other : Held). (other.slot == held.slot) ≡ false) rest
     others [] differ ins = tt
-    others (other ∷ rest) differ ins =
-        (ne_eqb other.slot held.slot (λ same.
-        let pieces : held.piece.0 ≡ other.piece.0 =
-        some_same held.piece.0 other.piece.0 (sym (piece_in_slot shares held are.0) ∙ ap (piece_at shares) (sym same) ∙ piece_in_slot shares other ins.0) in
-        false_true (sym differ.0 ∙ eq-eqb held.piece.0 other.piece.0 pieces)), others rest differ.1 ins.1)
+    others (other ∷ rest) differ ins = (
+      ne_eqb other.slot held.slot (λ same.
+          let pieces : held.piece.0 ≡ other.piece.0 =
+          some_same held.piece.0 other.piece.0 (sym (piece_in_slot shares held are.0) ∙ ap (piece_at shares) (sym same) ∙ piece_in_slot shares other ins.0) in
+          false_true (sym differ.0 ∙ eq-eqb held.piece.0 other.piece.0 pieces)),
+      others rest differ.1 ins.1,
+    )
 
 -- ---- the items once they are in the page file
 
@@ -289,9 +293,11 @@ module _ (page : PageNo) (list : List Held) (shares now : List (Option Share)) (
 
       by : IsPaged held.slot → (off : ℕ) × (item_at now held.slot ≡ Some (Paged held.piece page off held.len))
       by found =
-          let here : IsItemOf held found.item = subst (λ (o : Option Item). IsSomeAnd o (IsItemOf held)) found.was mine in
-          (bytes_of found.front, found.now_is ∙ ap (λ (item : Item). Some item) (sym (found.of_it.2 page (bytes_of found.front)) ∙ here.2 page
-          (bytes_of found.front)))
+          let here : IsItemOf held found.item = subst (λ (o : Option Item). IsSomeAnd o (IsItemOf held)) found.was mine in (
+            bytes_of found.front,
+            found.now_is ∙ ap (λ (item : Item). Some item) (sym (found.of_it.2 page (bytes_of found.front)) ∙ here.2 page
+                (bytes_of found.front)),
+          )
 
   -- ---- what stays
 
@@ -397,10 +403,11 @@ module _ (page : PageNo) (list : List Held) (shares now : List (Option Share)) (
             let fits = here.0 in
             let long = found.of_it.1 in
             subst (λ (o : Option Item). IsSomeAnd o (λ (item : Item). (view.off + view.len ≤ item_length item) × IsLongAs all item (piece_of_item item)))
-            (sym found.now_is)
-            (omega (arith, fits, long),
-            long_now found.item (Paged found.held.piece page (bytes_of found.front) found.held.len) (Some found.held.piece.0) (sym found.of_it.1)
-            (subst (IsLongAs all found.item) found.of_it.0 here.1))
+            (sym found.now_is) (
+              omega (arith, fits, long),
+              long_now found.item (Paged found.held.piece page (bytes_of found.front) found.held.len) (Some found.held.piece.0) (sym found.of_it.1)
+                  (subst (IsLongAs all found.item) found.of_it.0 here.1),
+            )
 
     all_inside : (views : List View) → AllByRecursion (IsInside all shares) views → AllByRecursion (IsInside all now) views
     all_inside [] is = tt

@@ -17,10 +17,10 @@ loop-k-preserved g c =
     let inside : c.loop-k.k < length old.slots = subst (λ (n : ℕ). c.loop-k.k < n) c.len-k-end.ensures.value c.loop-k-test.true in
     let seen = (seen-value (g.dyn-1.0, g.dyn-1.1)).it in
     elim c.if-holds_claimed.branch [
-      then-holds_claimed w ↦ subst (λ (now : Table). LetGoTo (c.loop-k.k + 1) old now) (ap (of_table seen) (sym w.handles-is))
+      | then-holds_claimed w ↦ subst (λ (now : Table). LetGoTo (c.loop-k.k + 1) old now) (ap (of_table seen) (sym w.handles-is))
           (released old mid c.loop-k.k inside c.loop-k.invariant (sym c.holds_claimed.ensures ∙ w.if-holds_claimed.true)
           (of_table seen w.release.new.self) w.release.ensures.rest w.release.ensures.count)
-    | else-holds_claimed w ↦ subst (λ (now : Table). LetGoTo (c.loop-k.k + 1) old now) (ap (of_table seen) (sym w.handles-is))
+      | else-holds_claimed w ↦ subst (λ (now : Table). LetGoTo (c.loop-k.k + 1) old now) (ap (of_table seen) (sym w.handles-is))
           (stays old mid c.loop-k.k inside c.loop-k.invariant (sym c.holds_claimed.ensures ∙ w.if-holds_claimed.false))
     ]
 
