@@ -1,5 +1,6 @@
 ghost use Rattle.std.specs.Prelude.{IfOk};
 
+use crate::owners::Owners;
 use crate::readers::Readers;
 use crate::row::Row;
 use blob_registry::Registry;
@@ -11,6 +12,7 @@ use quota_queue::Quota;
 use recent_items::Recent;
 use renderer_table::Renderers;
 use std::alloc::Global;
+use std::collections::BTreeMap;
 use url_store::UrlStore;
 
 /// The parts of a store. Between two lines they agree with one another.
@@ -45,6 +47,8 @@ pub struct Parts {
     pub urls: UrlStore,
     pub renderers: Renderers,
     pub readers: Readers,
+    /// The build numbers of blobs whose bytes or room were to come, by their builders.
+    pub transits: Owners,
 }
 
 impl Parts {
@@ -83,6 +87,7 @@ impl Parts {
             urls,
             renderers,
             readers: Readers::new(alloc),
+            transits: BTreeMap::new(alloc),
         })
     }
 

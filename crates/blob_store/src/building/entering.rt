@@ -12,6 +12,7 @@ use super::laying::Laid;
 use super::recipe::recipe;
 use crate::parts::Parts;
 use crate::row::{Row, Sending};
+use crate::transits::list;
 use blob_entries::Recipe;
 use blob_items::ViewList;
 use blob_registry::Registry;
@@ -159,8 +160,11 @@ impl Parts {
         ensures { OnOk result (Enters renderer name (arrived renderer kind.now arrival) arrival.row
             self.old self.new) }
     {
+        let number = self.registry.registered();
+        let status = arrival.status;
         let row = register(&mut self.registry, renderer, name, kind, arrival)?;
         self.renderers.add_one(renderer, name)?;
+        list(&mut self.transits, self.alloc, renderer, number, status)?;
         self.weight += row.weight;
         self.rows.push(row)?;
         Ok(())
