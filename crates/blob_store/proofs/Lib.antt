@@ -53,6 +53,16 @@ pub mod HeardJobs
 pub mod Using
 pub mod Lasting
 pub mod Ended
+pub mod PassedEntry
+pub mod EndedList
+pub mod MadeViews
+pub mod UsedApart
+pub mod BlobsEnded
+pub mod HoldersEnded
+pub mod WholeEnded
+pub mod RowsPassed
+pub mod PiecesDone
+pub mod EndsHeard
 pub mod Claiming
 pub mod Entering
 pub mod Laying
@@ -78,3 +88,10 @@ pub mod Reading
 pub mod Closing
 pub mod HeardReads
 pub mod Droppable
+pub mod Reaching
+pub mod RemovedPages
+pub mod GatheringRows
+pub mod WholeGranted
+pub mod SeenGranted
+pub mod PageJobs
+pub mod JobsWhole
