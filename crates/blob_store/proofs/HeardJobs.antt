@@ -73,7 +73,7 @@ whole_lost parts whole = record {
     still (Some row) (Some entry) is = record {
       comes = is.comes;
       owned = is.owned;
-      unused = λ pending piece from to. ((is.unused pending piece from to).0, refl);
+      unused = λ pending piece from to. ((is.unused pending piece from to).0, λ none. refl);
     }
 
 module _ (s : Session) (groups : List Group) (parts : Parts) (told : Option (List Change)) (table : Table) (legal : IsLegalFrom s start groups)

@@ -1,5 +1,9 @@
 //! One file a list of settling: what is owed after a line, and its answers.
 
+mod compactions;
 mod drops;
 mod endings;
+mod grants;
+mod page_jobs;
+mod removals;
 mod rows;
