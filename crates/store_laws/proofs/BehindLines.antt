@@ -84,7 +84,7 @@ module _ (s : Session) (h : History) (event : Event) (still : has_ended h ≡ fa
 -- ---- what is unfinished stands
 
 module _ (page : ℕ) (h : History) where
-  unfinished_back : (event : Event) (own : List Answer) (name : ℕ) → is_unfinished (after h event own) name ≡ true → is_unfinished h name ≡ true
+  pub unfinished_back : (event : Event) (own : List Answer) (name : ℕ) → is_unfinished (after h event own) name ≡ true → is_unfinished h name ≡ true
   unfinished_back event [] name e = e
   unfinished_back event (answer ∷ more) name e = first answer (all (heard_first h event answer) more e)
     where
@@ -99,7 +99,7 @@ module _ (page : ℕ) (h : History) where
   abbrev dies : Build → Bool
   dies build = is_unfinished h build.name && not (is_live page h build.name)
 
-  abbrev Lives : Build → Type 0
+  abbrev pub Lives : Build → Type 0
   Lives build = is_unfinished h build.name ≡ true → is_live page h build.name ≡ true
 
   lives_else : (build : Build) → dies build ≡ false → Lives build
@@ -125,7 +125,7 @@ module _ (page : ℕ) (h : History) where
       let parts = or_parts (dies build) (list_any dies list) none in (lives_else build parts.0, each_lives list parts.1)
 
   -- where no drop is owed
-  unfinished_lives : (list : List Build) → map (λ (build : Build). answers.Dropped build.name) (filter dies (reverse list)) ≡ [] → AllByRecursion Lives list
+  pub unfinished_lives : (list : List Build) → map (λ (build : Build). answers.Dropped build.name) (filter dies (reverse list)) ≡ [] → AllByRecursion Lives list
   unfinished_lives list none = each_lives list (by (list_any dies list) refl)
     where
       by : (b : Bool) → list_any dies list ≡ b → b ≡ false
@@ -194,7 +194,7 @@ module _ (s : Session) (groups : List Group) (event : Event) (own : List Answer)
   abbrev behind : History
   behind = after (history_from start groups) event own
 
-  caused_behind : IsCaused s behind
+  pub caused_behind : IsCaused s behind
   caused_behind = own_by_caused s h event still (caused_from s groups legal) (refusal s h event) own refl is_own
 
   covered : AllByRecursion (IsCovered s h event own) (builds (page_limit s) behind)
