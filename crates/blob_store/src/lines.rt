@@ -4,6 +4,7 @@ mod build;
 mod cancel;
 mod count;
 mod die;
+mod disk;
 mod drop;
 mod end;
 mod fetch;

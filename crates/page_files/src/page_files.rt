@@ -133,6 +133,18 @@ impl PageFiles {
         }
     }
 
+    /// The bytes of the pieces left in the job in flight, of which no two are one.
+    #[tactic(auto, using(crate::proofs::Pages::apart_none))]
+    pub fn job_bytes(&self) -> u64
+        ensures value { result ≡ bytes_of (left_of self.now.job) }
+        ensures apart { IsDistinct nat_eq (numbers (left_of self.now.job)) }
+    {
+        match &self.job {
+            Some(job) => job.pieces.bytes_apart(),
+            None => 0,
+        }
+    }
+
     /// Reserves so many bytes more.
     pub fn reserve(&mut self, bytes: u64)
         requires { bytes ≤ room self.old }

@@ -74,6 +74,15 @@ impl PieceTable {
         self.bytes
     }
 
+    /// The same; no piece is in twice.
+    pub fn bytes_apart(&self) -> u64
+        ensures value { result ≡ bytes_of self.now }
+        ensures apart { IsDistinct nat_eq (numbers self.now) }
+    {
+        let _places = self.places.iter(); // says that each number has one place
+        self.bytes
+    }
+
     /// Takes a piece out, where it is in.
     pub fn remove(&mut self, piece: PieceNo)
         ensures { self.new ≡ without piece self.old }
