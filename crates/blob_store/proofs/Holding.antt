@@ -87,7 +87,7 @@ module _ (change : Entry → Entry) (reroots : Reroots change) where
   views_still : (shares : List (Option Share)) (entry : Entry) → Views shares entry → Views shares (change entry)
   views_still shares entry is = record {
     inside = subst (AllByRecursion (IsInside shares)) (sym (reroots.views entry)) is.inside;
-    there = subst (AllByRecursion (λ (view : View). IfSome (item_at shares view.slot) IsThere)) (sym (reroots.bytes entry)) is.there;
+    there = subst (AllByRecursion (λ (view : View). IfSome (item_at shares view.slot) IsThere)) (sym (reroots.views entry)) is.there;
   }
 
   -- entries agree with items and rows as before

@@ -67,7 +67,9 @@ module _ (parts : Parts) (told : Option (List Change)) (table : HandleTable) (wh
       here : Views parts.shares entry → AllByRecursion (ViewLies (origins parts.files told table) parts.shares) entry.views
       here views =
           all_lie entry.views
-          (append_second (IsInside parts.shares) (fixed_views entry.recipe ++ own_views entry.own) entry.views views.inside) views.there
+          (append_second (IsInside parts.shares) (fixed_views entry.recipe ++ own_views entry.own) entry.views views.inside)
+          (append_second (λ (view : View). IfSome (item_at parts.shares view.slot) IsThere)
+          (fixed_views entry.recipe ++ own_views entry.own) entry.views views.there)
 
       by : (found : Option ℕ) → option_and_then (entry_at parts.registry.entries) found ≡ Some entry
           → AllByRecursion (ViewLies (origins parts.files told table) parts.shares) entry.views

@@ -45,10 +45,10 @@ abbrev pub IsThere : Item → Type 0
 IsThere (Reserved piece len) = ⊥
 IsThere item = Unit {0}
 
--- the views of an entry lie inside items, and those of its bytes on items that are there
+-- the views of an entry lie inside items, which are there
 pub record Views (shares : List (Option Share)) (entry : Entry) : Type 0 where
   pub inside : AllByRecursion (IsInside shares) (held_views entry)
-  pub there : AllByRecursion (λ (view : View). IfSome (item_at shares view.slot) IsThere) entry.views
+  pub there : AllByRecursion (λ (view : View). IfSome (item_at shares view.slot) IsThere) (held_views entry)
 
 -- the blob that a step is of was built
 abbrev pub IsKnown : List ℕ → Step → Type 0
@@ -80,7 +80,7 @@ pub record Charged (entries : List (Option Entry)) (shares : List (Option Share)
 -- how bytes come for a blob of this status: they wait until it is granted, and come until it has them
 abbrev pub Comes : Status → Option (List View) → Sending → Type 0
 Comes status own Settled = Unit {0}
-Comes status own Waiting = status ≡ PendingQuota
+Comes status own Waiting = (status ≡ PendingQuota) × (own ≡ None)
 Comes status own (Gathering segments) = (status ≡ PendingTransport) × (own ≡ None)
 Comes status own (Writing slots came) = (status ≡ PendingTransport) × (own ≡ None)
 

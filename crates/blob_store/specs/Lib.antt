@@ -17,6 +17,7 @@ pub mod Departing
 pub mod Dropping
 pub mod Unheld
 pub mod Passing
+pub mod Ending
 pub mod NewItems
 pub mod Putting
 pub mod Arriving
@@ -26,3 +27,7 @@ pub mod Entering
 pub mod Adding
 pub mod Admitting
 pub mod Steps
+pub mod Telling
+pub mod Granting
+pub mod Paging
+pub mod Closing

@@ -2,4 +2,7 @@
 
 mod drops;
 mod endings;
+mod grants;
+mod page_jobs;
+mod removals;
 mod rows;

@@ -61,6 +61,7 @@ pub mod Deciding
 pub mod Decided
 pub mod SlotTests
 pub mod BuildRefusals
+pub mod PlacesInside
 pub mod Made
 pub mod PassEntries
 pub mod PassKeeps
@@ -74,6 +75,7 @@ pub mod LateLists
 pub mod Pageable
 pub mod Unpinned
 pub mod Ended
+pub mod OwnNumbers
 pub mod PiecesEntered
 pub mod Losing
 pub mod ToldPages
@@ -98,3 +100,16 @@ pub mod SliceLines
 pub mod PairedSums
 pub mod Rooted
 pub mod BehindLines
+pub mod JobStarts
+pub mod Flying
+pub mod LateCourses
+pub mod DuePages
+pub mod Removing
+pub mod LateStands
+pub mod PiecesWithin
+pub mod ReachesFollow
+pub mod Unsent
+pub mod GrantedParts
+pub mod Granting
+pub mod PageMoves
+pub mod Compactions

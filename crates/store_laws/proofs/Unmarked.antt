@@ -61,7 +61,7 @@ module _ (s : Session) (h : History) (ends : (name : ℕ) → IfSome (ended h na
       go clear None at = refl
       go clear (Some why) at = let bad : None ≡ Some why = sym clear ∙ at in absurd (cc bad)
 
-  each_unmarked : (stands : ℕ → Bool) (list : List Build) (entries : List (Option Entry)) → AreOutlined s h stands list entries
+  pub each_unmarked : (stands : ℕ → Bool) (list : List Build) (entries : List (Option Entry)) → AreOutlined s h stands list entries
       → AllByRecursion (λ (build : Build). ending_answers s h build ≡ []) list → Beside (IsMarkedRight s h) list entries → AreUnmarked entries
   each_unmarked stands [] [] e none right = tt
   each_unmarked stands [] (held ∷ entries) e none right = absurd right
