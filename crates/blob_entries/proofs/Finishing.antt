@@ -29,7 +29,7 @@ use Rattle.blob_entries.specs.Names.{number_of}
 use Rattle.blob_entries.specs.Sound.{AreOwn, AreSound, IsBreaking, IsSound, StepFits}
 use Rattle.blob_entries.specs.Sources.{each_source, some_source}
 use Rattle.blob_entries.specs.Statuses.{is_broken, is_done, is_pending}
-use Rattle.blob_entries.specs.Weights.{HasRoom, cut_most, cut_weight, step_most, step_weight}
+use Rattle.blob_entries.specs.Weights.{HasRoom, KeepsBounds, cut_most, cut_weight, step_most, step_weight}
 
 abbrev Entries : Type 0
 Entries = List (Option Entry)
@@ -202,24 +202,26 @@ pub record Completed (names : List ℕ) (first entries : Entries) (before after 
   pub sound : AreSound names entries
   pub counted : AreCounted entries after
   pub room : HasRoom names entries
+  pub bounds : KeepsBounds (book_of names first) (book_of names entries)
   pub same : SameItems first entries before after
 
 -- weights that bound the views still do
-pub room_set : (names : List ℕ) (entries : Entries) (number : ℕ) (old later : Entry) → entry_at entries number ≡ Some old
+pub bounds_set : (names : List ℕ) (entries : Entries) (number : ℕ) (old later : Entry) → entry_at entries number ≡ Some old
     → ((weights : List ℕ) → ((other : ℕ) → IfSome (entry_at entries other)
     (λ (e : Entry). length (held_views e) + cut_weight names weights e.recipe ≤ get_or weights other 0))
     → length (held_views later) + cut_weight names weights later.recipe ≤ length (held_views old) + cut_weight names weights old.recipe)
-    → HasRoom names entries → HasRoom names (set entries number (Some later))
-room_set names entries number old later is less room = record {
-  weights = room.weights;
-  few = room.few;
-  weighed = λ other. same_or other number
-      (λ equal. rw (equal, at_same entries number (Some later) (at_within entries number old is))
-      (let was = subst (λ (held : Option Entry). IfSome held
-      (λ (e : Entry). length (held_views e) + cut_weight names room.weights e.recipe ≤ get_or room.weights number 0)) is (room.weighed number) in
-      omega (arith, was, less room.weights room.weighed)))
-      (λ apart. rw (at_other entries number other (Some later) apart) (room.weighed other));
-}
+    → KeepsBounds (book_of names entries) (book_of names (set entries number (Some later)))
+bounds_set names entries number old later is less weights weighed other =
+    same_or other number
+    (λ equal. rw (equal, at_same entries number (Some later) (at_within entries number old is))
+    (let was = subst (λ (held : Option Entry). IfSome held
+    (λ (e : Entry). length (held_views e) + cut_weight names weights e.recipe ≤ get_or weights number 0)) is (weighed number) in
+    omega (arith, was, less weights weighed)))
+    (λ apart. rw (at_other entries number other (Some later) apart) (weighed other))
+
+pub room_kept : (names : List ℕ) (entries later : Entries) → KeepsBounds (book_of names entries) (book_of names later) → HasRoom names entries
+    → HasRoom names later
+room_kept names entries later keeps room = record { weights = room.weights; few = room.few; weighed = keeps room.weights room.weighed }
 
 -- some number is above none
 pub zero_or : {P : Type 0} → (n : ℕ) → (n ≡ 0 → P) → (0 < n → P) → P
@@ -250,16 +252,8 @@ completed names entries number entry before after views is are counted room can 
       zero_or (views_in entries slot)
       (λ none. absurd (omega (arith, some, moved, was, bare, on_parts slot entry, in_at entries number slot, none, made.stays slot none, made.counts slot)))
       (λ above. omega (arith, moved, was, bare, on_parts slot entry, counted slot above, made.counts slot));
-  room = room_set names entries number entry (done_with views entry) is
-      (λ weights weighed. omega (
-        arith,
-        made.few,
-        most_weight names weights entries entry.recipe weighed,
-        length-append
-            (fixed_views entry.recipe ++ own_views entry.own) entry.views,
-        length-append (fixed_views entry.recipe) (own_views entry.own),
-      ))
-      room;
+  room = room_kept names entries (set entries number (Some (done_with views entry))) bounds room;
+  bounds = bounds;
   same = record {
     items = made.items;
     others = λ slot none.
@@ -269,6 +263,17 @@ completed names entries number entry before after views is are counted room can 
         (made.stays slot none, omega (arith, moved, was, bare, on_parts slot entry, in_at entries number slot, none, made.stays slot none, made.counts slot));
   };
 }
+  where
+    bounds : KeepsBounds (book_of names entries) (book_of names (set entries number (Some (done_with views entry))))
+    bounds = bounds_set names entries number entry (done_with views entry) is
+        (λ weights weighed. omega (
+          arith,
+          made.few,
+          most_weight names weights entries entry.recipe weighed,
+          length-append
+              (fixed_views entry.recipe ++ own_views entry.own) entry.views,
+          length-append (fixed_views entry.recipe) (own_views entry.own),
+        ))
 
 -- one that breaks
 pub broken_apart : (status : Status) → is_broken status ≡ true → (is_pending status ≡ false) × (is_done status ≡ false)
@@ -310,10 +315,14 @@ broken names entries number entry end shares is are counted room ends not_done =
     made = λ done. absurd (cc);
   });
   counted = λ slot some. rw (same slot) (counted slot (rw (← same slot) some));
-  room = room_set names entries number entry (with_status end entry) is (λ weights weighed. omega arith) room;
+  room = room_kept names entries (set entries number (Some (with_status end entry))) bounds room;
+  bounds = bounds;
   same = record { items = λ slot. refl; others = λ slot none. (refl, rw (same slot) none) };
 }
   where
+    bounds : KeepsBounds (book_of names entries) (book_of names (set entries number (Some (with_status end entry))))
+    bounds = bounds_set names entries number entry (with_status end entry) is (λ weights weighed. omega arith)
+
     sound : IsSound names entries number entry
     sound = sound_at names entries number entry are is
 

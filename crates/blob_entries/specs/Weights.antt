@@ -1,7 +1,7 @@
 -- A bound on the views that entries have or will have, by weights. Own.
 use Rattle.std.specs.Option.{option_map_or}
 use Rattle.std.specs.Prelude.{IfSome, List, Option, length, min, slice_index, sum, sum_by, ℕ, ◌+◌, ◌^◌, ◌≤◌}
-use Rattle.blob_entries.specs.Book.{entry_at}
+use Rattle.blob_entries.specs.Book.{Book, entry_at}
 use Rattle.blob_entries.specs.Contents.{source_views}
 use Rattle.blob_entries.specs.Holdings.{held_views}
 use Rattle.blob_entries.specs.Names.{number_of}
@@ -26,6 +26,16 @@ step_weight names weights (Source name off len) = min len (option_map_or (slice_
 
 abbrev pub cut_weight : List ℕ → List ℕ → List Step → ℕ
 cut_weight names weights steps = sum_by (step_weight names weights) steps
+
+-- the weights bound the views that each entry has or will have
+abbrev pub AreBounds : List ℕ → Book → Type 0
+AreBounds weights book =
+    (number : ℕ) → IfSome (entry_at book.entries number)
+    (λ (entry : Entry). length (held_views entry) + cut_weight book.names weights entry.recipe ≤ slice_index weights number)
+
+-- weights that did still do
+abbrev pub KeepsBounds : Book → Book → Type 0
+KeepsBounds before after = (weights : List ℕ) → AreBounds weights before → AreBounds weights after
 
 -- with these weights, which bound the views that each entry has or will have, there are at most 2^32 views
 pub record HasRoom (names : List ℕ) (entries : List (Option Entry)) : Type 0 where

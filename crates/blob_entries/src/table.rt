@@ -14,7 +14,7 @@ ghost use Rattle.blob_entries.specs.Sound.{AreOwn, AreSound, IsSound};
 ghost use Rattle.blob_entries.specs.Sources.{needs, sources_at, sources_of};
 ghost use Rattle.blob_entries.specs.Standing.{name_under, standing};
 ghost use Rattle.blob_entries.specs.Statuses.{is_broken, is_pending};
-ghost use Rattle.blob_entries.specs.Weights.{HasRoom};
+ghost use Rattle.blob_entries.specs.Weights.{HasRoom, KeepsBounds};
 
 use crate::counts::{Items, release_all};
 use crate::entry::Entry;
@@ -177,6 +177,7 @@ impl Table {
         ensures looks { OnOk result (LooksAt self.old self.new number (Some Done)) }
         ensures counted { OnOk result (AreCounted self.new.entries shares.new) }
         ensures room { OnOk result (HasRoom self.new.names self.new.entries) }
+        ensures bounds { OnOk result (KeepsBounds self.old self.new) }
         ensures items { OnOk result
             (SameItems self.old.entries self.new.entries shares.old shares.new) }
         ensures sound { AreSound self.new.names self.new.entries }
@@ -198,6 +199,7 @@ impl Table {
         ensures looks { IfOk result (λ end. LooksAt self.old self.new number end) }
         ensures counted { OnOk result (AreCounted self.new.entries shares.new) }
         ensures room { OnOk result (HasRoom self.new.names self.new.entries) }
+        ensures bounds { OnOk result (KeepsBounds self.old self.new) }
         ensures items { OnOk result
             (SameItems self.old.entries self.new.entries shares.old shares.new) }
         ensures sound { AreSound self.new.names self.new.entries }

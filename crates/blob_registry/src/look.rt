@@ -1,7 +1,7 @@
 ghost use Rattle.std.specs.Prelude.{◌≡◌, ◌<◌, ◌++◌, [], length, OnOk};
 ghost use Rattle.blob_entries.specs.Counted.{AreCounted, SameItems};
 ghost use Rattle.blob_entries.specs.Sound.{AreSound};
-ghost use Rattle.blob_entries.specs.Weights.{HasRoom};
+ghost use Rattle.blob_entries.specs.Weights.{HasRoom, KeepsBounds};
 ghost use Rattle.blob_registry.specs.Passes.{ending_list, Finishes};
 ghost use Rattle.blob_registry.specs.Work.{AreKept, Looked};
 
@@ -39,6 +39,7 @@ fn look(
     ensures kept { AreKept table.new work.new }
     ensures counted { OnOk result (AreCounted table.new.entries shares.new) }
     ensures room { OnOk result (HasRoom table.new.names table.new.entries) }
+    ensures bounds { OnOk result (KeepsBounds table.old table.new) }
     ensures items { OnOk result
         (SameItems table.old.entries table.new.entries shares.old shares.new) }
     ensures sound { AreSound table.new.names table.new.entries }
@@ -67,6 +68,7 @@ pub fn look_all(
     ensures kept { AreKept table.new work.new }
     ensures counted { OnOk result (AreCounted table.new.entries shares.new) }
     ensures room { OnOk result (HasRoom table.new.names table.new.entries) }
+    ensures bounds { OnOk result (KeepsBounds table.old table.new) }
     ensures items { OnOk result
         (SameItems table.old.entries table.new.entries shares.old shares.new) }
 {

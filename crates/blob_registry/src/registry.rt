@@ -13,7 +13,7 @@ ghost use Rattle.blob_entries.specs.Names.{number_of};
 ghost use Rattle.blob_entries.specs.Sound.{AreOwn, AreSound, IsSound};
 ghost use Rattle.blob_entries.specs.Sources.{sources_of};
 ghost use Rattle.blob_entries.specs.Statuses.{is_broken, is_pending};
-ghost use Rattle.blob_entries.specs.Weights.{HasRoom};
+ghost use Rattle.blob_entries.specs.Weights.{HasRoom, KeepsBounds};
 ghost use Rattle.blob_registry.specs.Dependents.{dependents_of};
 ghost use Rattle.blob_registry.specs.Passes.{Finishes};
 ghost use Rattle.blob_registry.specs.Registering.{new_entry, pushed, recipe_of, CanBring};
@@ -219,6 +219,7 @@ impl Registry {
         ensures finishes { IfOk result (λ list. Finishes self.old self.new list) }
         ensures counted { OnOk result (AreCounted self.new.entries shares.new) }
         ensures room { OnOk result (HasRoom self.new.names self.new.entries) }
+        ensures bounds { OnOk result (KeepsBounds self.old self.new) }
         ensures items { OnOk result
             (SameItems self.old.entries self.new.entries shares.old shares.new) }
     {

@@ -23,21 +23,22 @@ use Rattle.blob_entries.specs.Holdings.{fixed_views, held_views, own_views}
 use Rattle.blob_entries.specs.declared.entry.Entry.{Entry}
 use Rattle.blob_entries.specs.declared.step.Step.{Step}
 use Rattle.blob_entries.proofs.Counting.{on_append, on_cons}
-use Rattle.blob_model.specs.Parts.{own_lengths}
-use Rattle.blob_model.proofs.Lists.{all_append, append_second}
+use Rattle.blob_model.specs.Parts.{embedded, own_lengths}
+use Rattle.segment_assembly.specs.Assembly.{bytes_at}
+use Rattle.blob_model.proofs.Lists.{all_append, append_second, for_each}
 use Rattle.page_files.specs.Files.{left_of, source_of}
 use Rattle.page_files.specs.Items.{IsMemoryOf, IsPagedOf}
 use Rattle.page_files.specs.declared.held.Held.{Held}
 use Rattle.recent_items.specs.Recent.{is_there}
-use Rattle.transport_plan.specs.Spans.{piece_count}
+use Rattle.transport_plan.specs.Spans.{piece_count, piece_spans}
 use Rattle.store_laws.specs.Items.{item_length}
 use Rattle.store_laws.specs.PartLaws.{recipe_of}
 use Rattle.store_laws.proofs.ViewHas.{append_first}
-use Rattle.blob_store.specs.Adding.{arrival_of, new_blob, CanAdd}
-use Rattle.blob_store.specs.Blobs.{Comes, IsInside, Views}
+use Rattle.blob_store.specs.Adding.{arrival_of, new_blob, CanAdd, IsThere}
+use Rattle.blob_store.specs.Blobs.{Comes, IsInside, IsThere as IsHere, Views}
 use Rattle.store_laws.specs.Arrivals.{own_by, status_by}
 use Rattle.blob_store.specs.Entering.{arrived}
-use Rattle.store_laws.specs.NewItems.{own_items}
+use Rattle.store_laws.specs.NewItems.{inline_items, memory_items, own_items}
 use Rattle.blob_store.specs.Laying.{first_piece, sending_by, slot_of}
 use Rattle.blob_store.specs.NewBlobs.{EntryFits}
 use Rattle.store_laws.specs.NewItems.{range_items}
@@ -50,7 +51,7 @@ use Rattle.blob_store.specs.declared.building.laying.Laid.{Laid}
 use Rattle.blob_store.specs.declared.parts.Parts.{Parts}
 use Rattle.blob_store.specs.declared.row.Row.{Row}
 use Rattle.blob_store.specs.declared.row.Sending.{Sending}
-use Rattle.blob_store.proofs.AddedItems.{ranges_many, waiting_none, Came}
+use Rattle.blob_store.proofs.AddedItems.{ranges_are, ranges_many, ranges_seen, waiting_none, Came, IsRange}
 use Rattle.blob_store.proofs.AddedRecipe.{fixed_made, own_found, recipe_light, steps_known, weights_said}
 use Rattle.blob_store.proofs.AddedRow.{pieces_count}
 use Rattle.blob_store.proofs.Arriving.{fresh, held, seen, whole}
@@ -82,6 +83,33 @@ all_inside shares (view ∷ views) (item ∷ items) is long = (
 
     within : view.off + view.len ≤ item_length item
     within = let off = ap (λ (one : ℕ × ℕ). one.0) first_long in let len = ap (λ (one : ℕ × ℕ). one.1) first_long in omega (arith, off, len)
+
+-- and are there, if the items are
+all_here : (shares : List (Option Share)) (views : List View) (items : List Item) → seen shares views ≡ map fresh items → AllByRecursion IsHere items
+    → AllByRecursion (λ (view : View). IfSome (item_at shares view.slot) IsHere) views
+all_here shares [] items is here = tt
+all_here shares (view ∷ views) [] is here = absurd (cc is)
+all_here shares (view ∷ views) (item ∷ items) is here = (
+  subst (λ (found : Option Item). IfSome found IsHere) (sym (held shares view.slot item first)) here.0,
+  all_here shares views items rest_held here.1,
+)
+  where
+    first : share_at shares view.slot ≡ fresh item
+    first = cc is
+
+    rest_held : seen shares views ≡ map fresh items
+    rest_held = cc is
+
+range_here : (item : Item) → IsRange item → IsHere item
+range_here (Memory piece bytes) is = absurd is
+range_here (Paged piece page off len) is = absurd is
+range_here (Reserved piece len) is = absurd is
+range_here (File name stamp off len) is = tt
+range_here (Range slot off len) is = tt
+
+memory_here : (number : ℕ) (pieces : List (List ℕ)) → AllByRecursion IsHere (memory_items number pieces)
+memory_here number [] = tt
+memory_here number (bytes ∷ pieces) = (tt, memory_here (number + 1) pieces)
 
 -- a slot is among those of views as often as they are on it
 slots_counted : (slot : ℕ) (views : List View) → count_by (λ (one : ℕ). one == slot) (map slot_of views) ≡ views_on slot views
@@ -202,13 +230,32 @@ module _ (renderer : RendererId) (name : ℕ) (kind : List ℕ) (plan : Plan) (l
       by plans.OutOfMemory = some
       by (plans.TooMany what) = some
 
-  views_so : Views now.shares entry
-  views_so = record {
+  inline_here : seen now.shares laid.pieces ≡ map fresh (inline_items page (first_piece old) line)
+      → AllByRecursion (λ (view : View). IfSome (item_at now.shares view.slot) IsHere) laid.pieces
+  inline_here is =
+      all_here now.shares laid.pieces (inline_items page (first_piece old) line) is
+      (memory_here (first_piece old) (map (bytes_at (embedded line)) (piece_spans page 0 (own_lengths line))))
+
+  -- the items of own pieces that came at once are there
+  own_here : (one : Plan) → seen now.shares laid.pieces ≡ map fresh (own_items page (first_piece old) one line)
+      → AllByRecursion (λ (view : View). IfSome (item_at now.shares view.slot) IsHere) (own_views (own_by one laid.pieces))
+  own_here (plans.Shared n) is = tt
+  own_here (plans.File n) is = tt
+  own_here plans.None is = inline_here is
+  own_here plans.Inline is = inline_here is
+  own_here plans.OutOfMemory is = inline_here is
+  own_here (plans.TooMany what) is = inline_here is
+
+  views_so : AllByRecursion (IsThere old.registry) line → Views now.shares entry
+  views_so there = record {
     inside = subst (AllByRecursion (IsInside now.shares)) (sym held_so)
         (all_append (IsInside now.shares) laid.ranges (own_views (own_by plan laid.pieces))
         (append_first (IsInside now.shares) laid.ranges laid.pieces all)
         (own_some (AllByRecursion (IsInside now.shares)) tt (append_second (IsInside now.shares) laid.ranges laid.pieces all)));
-    there = tt;
+    there = subst (AllByRecursion (λ (view : View). IfSome (item_at now.shares view.slot) IsHere)) (sym held_so)
+        (all_append (λ (view : View). IfSome (item_at now.shares view.slot) IsHere) laid.ranges (own_views (own_by plan laid.pieces))
+        (all_here now.shares laid.ranges (range_items line) (ranges_seen plan line old laid now.shares came)
+        (for_each IsRange IsHere (range_items line) range_here (ranges_are old.registry line there))) (own_here plan came.held));
   }
     where
       all : AllByRecursion (IsInside now.shares) (laid.ranges ++ laid.pieces)
@@ -219,7 +266,7 @@ module _ (renderer : RendererId) (name : ℕ) (kind : List ℕ) (plan : Plan) (l
   comes_so = subst (Comes entry.status entry.own) (sym came.sending) (by plan)
     where
       by : (one : Plan) → Comes (status_by one) (own_by one laid.pieces) (sending_by one (map slot_of laid.pieces))
-      by (plans.Shared n) = refl
+      by (plans.Shared n) = (refl, refl)
       by (plans.File n) = (refl, refl)
       by plans.None = tt
       by plans.Inline = tt
@@ -244,13 +291,13 @@ module _ (renderer : RendererId) (name : ℕ) (kind : List ℕ) (plan : Plan) (l
     rooted = refl;
     viewed = viewed_so;
     apart = apart_so;
-    views = views_so;
+    views = views_so can.there;
     awaited = record {
       comes = comes_so;
       owned = λ pending. own_found page (first_piece old) laid.ranges line;
       unused = λ pending piece past within. (
         unused_past old.shares old.homes piece old.recent past whole.stored.order,
-        unmoved_past old whole piece past (left_of old.pages.job) whole.stored.job,
+        λ none. unmoved_past old whole piece past (left_of old.pages.job) whole.stored.job,
       );
     };
     known = (can.fits, steps_known old.registry page (first_piece old) laid.ranges line can.there);

@@ -1,5 +1,5 @@
 -- A blob that is added fits the parts, which grow by it.
-use Rattle.std.proofs.Common.{◌≡◌, ℕ, ◌+◌, List, ◌∷◌, ◌++◌, [], length, map, sym, ap, subst, ◌∙◌, Option, arith}
+use Rattle.std.proofs.Common.{◌≡◌, ℕ, ◌+◌, List, ◌∷◌, ◌++◌, [], length, map, refl, sym, ap, subst, ◌∙◌, Option, arith}
 use Rattle.std.specs.Prelude.{sum_by}
 use Rattle.std.specs.List.{AllByRecursion}
 use Rattle.std.proofs.lemmas.List.Sums.{sum_by-append}
@@ -27,6 +27,8 @@ use Rattle.blob_store.proofs.AddedEntry.{added_entry}
 use Rattle.blob_store.proofs.AddedItems.{added_items, lays_came, ranges_are, ranges_no_memory, ranges_no_pieces, ranges_not_reserved, Came, IsRange}
 use Rattle.blob_store.proofs.AddedRow.{added_row}
 use Rattle.blob_store.proofs.Grown.{whole_grows}
+use Rattle.store_laws.specs.Marking.{lacks}
+use Rattle.blob_store.specs.Transits.{Lists}
 
 module _ (renderer : RendererId) (name : ℕ) (kind : List ℕ) (plan : Plan) (line : List Part) (old now : Parts)
     (added : IsAdded renderer name kind plan line old now) where
@@ -70,6 +72,7 @@ module _ (renderer : RendererId) (name : ℕ) (kind : List ℕ) (plan : Plan) (l
     held = old.held + pieces;
     weight = old.weight + (arrival_of plan line old added.laid).row.weight;
     renderers = now.renderers;
+    transits = now.transits;
   }
 
   abbrev entered : Parts → Parts
@@ -78,6 +81,7 @@ module _ (renderer : RendererId) (name : ℕ) (kind : List ℕ) (plan : Plan) (l
     rows = parts.rows ++ (arrival_of plan line old added.laid).row ∷ [];
     weight = parts.weight + (arrival_of plan line old added.laid).row.weight;
     renderers = now.renderers;
+    transits = now.transits;
   }
 
   grown_so : AllByRecursion IsRange (range_items line)
@@ -95,6 +99,11 @@ module _ (renderer : RendererId) (name : ℕ) (kind : List ℕ) (plan : Plan) (l
     handles = subst (λ (table : Table). now.renderers ≡ with_counts renderer.0 (one_more name (counts_of renderer.0 table)) table) renderers_same
         added.enters.handles;
     counts = subst (λ (table : Table). ChangesCount (λ (count : ℕ). count + 1) renderer.0 name table now.renderers) renderers_same added.enters.counts;
+    owner = refl;
+    lists = subst (λ (parts : Parts).
+        Lists renderer.0 (length parts.registry.names) (lacks (arrived renderer kind (arrival_of plan line old added.laid)).status) parts.transits
+        now.transits)
+        added.lays.rest added.enters.lists;
     rest = grown_so (ranges_are old.registry line can.there);
   }
 

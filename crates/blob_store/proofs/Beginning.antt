@@ -70,6 +70,7 @@ module _ (limits : Limits) (version : Version) (parts : Parts) where
       known = λ number. tt;
       weighed = λ number. tt;
     };
+    transits = λ number. tt;
     holders = record {
       living = λ number fresh. refl;
       roots = λ name. refl;

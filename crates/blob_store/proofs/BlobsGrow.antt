@@ -15,7 +15,7 @@ use Rattle.item_shares.specs.declared.shares.Share.{Share}
 use Rattle.blob_items.specs.declared.view.View.{View}
 use Rattle.blob_entries.specs.Book.{entry_at}
 use Rattle.blob_entries.specs.Counts.{count_at, views_on}
-use Rattle.blob_entries.specs.Holdings.{fixed_views, held_views, own_views, views_in}
+use Rattle.blob_entries.specs.Holdings.{held_views, views_in}
 use Rattle.blob_entries.specs.Names.{number_of}
 use Rattle.blob_entries.specs.Weights.{cut_weight, step_weight}
 use Rattle.blob_entries.specs.declared.entry.Entry.{Entry}
@@ -23,7 +23,7 @@ use Rattle.blob_entries.specs.declared.step.Step.{Step}
 use Rattle.blob_entries.specs.declared.step.Step.TheVariants.{Own, Fixed, Source}
 use Rattle.blob_entries.proofs.Numbers.{number_kept, number_of_next, number_within}
 use Rattle.blob_entries.proofs.Soundness.{at_within}
-use Rattle.blob_model.proofs.Lists.{append_second, for_each}
+use Rattle.blob_model.proofs.Lists.{for_each}
 use Rattle.blob_registry.specs.Registering.{pushed}
 use Rattle.store_laws.specs.Items.{item_length}
 use Rattle.store_laws.specs.Weights.{memory_weight, piece_weight, reserved_weight}
@@ -62,7 +62,7 @@ module _ (old new : List (Option Share)) (still : (P : Item → Type 0) (slot : 
   views_still entry is = record {
     inside = for_each (IsInside old) (IsInside new) (held_views entry)
         (λ view within. still (λ (item : Item). view.off + view.len ≤ item_length item) view.slot within) is.inside;
-    there = there_still entry.views (append_second (IsInside old) (fixed_views entry.recipe ++ own_views entry.own) entry.views is.inside) is.there;
+    there = there_still (held_views entry) is.inside is.there;
   }
 
 -- ---- names

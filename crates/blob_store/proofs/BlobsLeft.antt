@@ -1,11 +1,11 @@
 -- Entries, their items and the rows beside them agree again when entries went.
-use Rattle.std.proofs.Common.{◌≡◌, ℕ, ◌+◌, ◌<◌, ◌≤◌, ◌==◌, ◌||◌, not, Bool, true, false, cond, List, [], ◌∷◌, ◌++◌, Option, Some, None, length, refl, ap, subst}
+use Rattle.std.proofs.Common.{◌≡◌, ℕ, ◌+◌, ◌<◌, ◌≤◌, ◌==◌, not, Bool, true, false, cond, List, [], ◌∷◌, Option, Some, None, length, refl, ap, subst}
 use Rattle.std.proofs.Common.{sym, ◌∙◌, arith}
 use Rattle.std.specs.Prelude.{filter, flat_map, fold, nat_eq, slice_get, slice_index, IfSome, IsSomeAnd}
 use Rattle.std.specs.List.{list_any, AllByRecursion}
-use Rattle.std.specs.Option.{option_map, option_map_or}
+use Rattle.std.specs.Option.{option_map}
 use Rattle.std.proofs.lemmas.Bool.{eq-eqb}
-use Rattle.std.proofs.lemmas.Option.{slice_get_within, slice_get-get_or}
+use Rattle.std.proofs.lemmas.Option.{slice_get_within}
 use Rattle.blob_words.specs.declared.number.PieceNo.{PieceNo}
 use Rattle.blob_words.specs.declared.status.Status.{Status}
 use Rattle.blob_words.specs.declared.status.Status.TheVariants as statuses
@@ -17,16 +17,15 @@ use Rattle.blob_items.specs.declared.view.View.{View}
 use Rattle.blob_entries.specs.Book.{Book, book_of, entry_at}
 use Rattle.blob_entries.specs.Contents.{is_own}
 use Rattle.blob_entries.specs.Counts.{count_at, views_on}
-use Rattle.blob_entries.specs.Holdings.{fixed_views, held_views, own_views}
+use Rattle.blob_entries.specs.Holdings.{held_views}
 use Rattle.blob_entries.specs.Leaving.{left}
-use Rattle.blob_entries.specs.Names.{number_of}
 use Rattle.blob_entries.specs.Statuses.{is_broken, is_pending}
 use Rattle.blob_entries.specs.Weights.{cut_weight}
 use Rattle.blob_entries.specs.declared.entry.Entry.{Entry}
-use Rattle.blob_entries.proofs.Counting.{on_append, on_cons}
+use Rattle.blob_entries.proofs.Counting.{on_cons}
 use Rattle.blob_entries.proofs.Holdings.{in_at, on_held}
 use Rattle.blob_registry.specs.Sweeps.{dropped, swept}
-use Rattle.page_files.specs.Files.{struck, Files}
+use Rattle.page_files.specs.Files.{struck, Files, source_of}
 use Rattle.page_files.specs.declared.held.Held.{Held}
 use Rattle.page_files.specs.declared.job.Job.{Job}
 use Rattle.quota_queue.specs.Queue.{without as unqueued, Queue}
@@ -43,7 +42,7 @@ use Rattle.blob_store.specs.Blobs.{AreKnown, AreUnused, AreWeighed, Awaits, Blob
 use Rattle.blob_store.specs.Dropping.{settled_by}
 use Rattle.blob_store.specs.Stored.{row_weights}
 use Rattle.blob_store.proofs.QueueLeft.{queue_rows}
-use Rattle.blob_store.proofs.SettledRows.{get_all, is_numbered, length_all, map_all, settled_if}
+use Rattle.blob_store.proofs.SettledRows.{get_all, is_numbered, length_all, map_all, own_number, settled_if}
 use Rattle.blob_store.proofs.SweptEntries.{gone_told, left_at}
 
 -- ---- a piece that wasn't used is not used when items go
@@ -78,14 +77,33 @@ flying_all : (piece : ℕ) (freed : List Item) (files : Files) → is_flying pie
 flying_all piece [] files none = none
 flying_all piece (item ∷ freed) files none = flying_all piece freed (let_go_by files item) (flying_item piece item files none)
 
-unused_still : (piece : ℕ) (freed : List Item) (order : List (ℕ × ℕ)) (files : Files) → IsUnused order files.job piece
+-- and the job is one of the same kind
+source_struck : (out : PieceNo) (job : Option Job) → source_of (option_map (struck out) job) ≡ source_of job
+source_struck out None = refl
+source_struck out (Some job) = refl
+
+source_item : (item : Item) (files : Files) → source_of (let_go_by files item).job ≡ source_of files.job
+source_item (Memory one bytes) files = source_struck one files.job
+source_item (Paged one page off len) files = source_struck one files.job
+source_item (Reserved one len) files = source_struck one files.job
+source_item (File name stamp off len) files = refl
+source_item (Range slot off len) files = refl
+
+source_all : (freed : List Item) (files : Files) → source_of (fold let_go_by files freed).job ≡ source_of files.job
+source_all [] files = refl
+source_all (item ∷ freed) files = source_all freed (let_go_by files item) ∙ source_item item files
+
+pub unused_still : (piece : ℕ) (freed : List Item) (order : List (ℕ × ℕ)) (files : Files) → IsUnused order files.job piece
     → IsUnused (fold left_by order freed) (fold let_go_by files freed).job piece
-unused_still piece freed order files none = (unused_all piece freed order none.0, flying_all piece freed files none.1)
+unused_still piece freed order files none = (
+  unused_all piece freed order none.0,
+  λ paged. flying_all piece freed files (none.1 (sym (source_all freed files) ∙ paged)),
+)
 
 -- ---- statuses
 
 -- an unfinished blob isn't broken
-unbroken : (status : Status) → is_pending status ≡ true → is_broken status ≡ true → false ≡ true
+pub unbroken : (status : Status) → is_pending status ≡ true → is_broken status ≡ true → false ≡ true
 unbroken statuses.PendingQuota is broken = broken
 unbroken statuses.PendingTransport is broken = broken
 unbroken statuses.PendingReferencedBlobs is broken = broken
@@ -99,9 +117,9 @@ unbroken statuses.ReferencedFileUnavailable is broken = is
 unbroken statuses.Dereferenced is broken = is
 
 -- bytes that come are those of an unfinished blob
-comes_pending : (status : Status) (own : Option (List View)) (sending : Sending) → Comes status own sending → is_pending status ≡ false → sending ≡ Settled
+pub comes_pending : (status : Status) (own : Option (List View)) (sending : Sending) → Comes status own sending → is_pending status ≡ false → sending ≡ Settled
 comes_pending status own Settled is ended = refl
-comes_pending status own Waiting is ended = absurd (false_true (sym ended ∙ ap is_pending is))
+comes_pending status own Waiting is ended = absurd (false_true (sym ended ∙ ap is_pending is.0))
 comes_pending status own (Gathering segments) is ended = absurd (false_true (sym ended ∙ ap is_pending is.0))
 comes_pending status own (Writing slots came) is ended = absurd (false_true (sym ended ∙ ap is_pending is.0))
 
@@ -122,15 +140,23 @@ module _ (shares later : List (Option Share)) (P : View → Option Item → Type
           let own = ap {B = ℕ} (λ (b : Bool). cond b 1 0) (eq-eqb view.slot view.slot refl) in omega (arith, sum, own)
 
 module _ (shares later : List (Option Share)) where
-  views_kept : (entry : Entry) → ((slot : ℕ) → 0 < views_on slot (held_views entry) → item_at later slot ≡ item_at shares slot) → Views shares entry
+  pub views_kept : (entry : Entry) → ((slot : ℕ) → 0 < views_on slot (held_views entry) → item_at later slot ≡ item_at shares slot) → Views shares entry
       → Views later entry
   views_kept entry kept are = record {
     inside = all_kept shares later (λ (view : View) (o : Option Item). IsSomeAnd o (λ (item : Item). view.off + view.len ≤ item_length item))
         (held_views entry) kept are.inside;
-    there = all_kept shares later (λ (view : View) (o : Option Item). IfSome o IsThere) entry.views
-        (λ slot some. kept slot
-        (let sum = on_append slot (fixed_views entry.recipe ++ own_views entry.own) entry.views in omega (arith, sum, some))) are.there;
+    there = all_kept shares later (λ (view : View) (o : Option Item). IfSome o IsThere) (held_views entry) kept are.there;
   }
+
+  -- a viewed item is where it was, where those of the slots that count are
+  pub viewed_kept : (entries : List (Option Entry)) (rows : List Row) (quota : Queue) (files : Files) (held : ℕ) → Charged entries later rows quota files held
+      → ((slot : ℕ) → 0 < count_at later slot → item_at later slot ≡ item_at shares slot) → (number : ℕ) (entry : Entry)
+      → entry_at entries number ≡ Some entry → (slot : ℕ) → 0 < views_on slot (held_views entry) → item_at later slot ≡ item_at shares slot
+  viewed_kept entries rows quota files held charged kept number entry at slot some =
+      let within = in_at entries number slot in
+      let own : on_held slot (entry_at entries number) ≡ views_on slot (held_views entry) = ap (on_held slot) at in
+      let count = charged.counts slot in
+      kept slot (omega (arith, within, own, count, some))
 
 module _ (page : ℕ) (book : Book) (shares later : List (Option Share)) (rows : List Row) (quota queue : Queue) (files now_files : Files)
     (order : List (ℕ × ℕ)) (held now_held : ℕ) (freed : List Item)
@@ -157,27 +183,11 @@ module _ (page : ℕ) (book : Book) (shares later : List (Option Share)) (rows :
   told_there : (number : ℕ) (entry : Entry) → number < length book.names → entry_at book.entries number ≡ Some entry → is_pending entry.status ≡ true
       → entry_at now_book.entries number ≡ None → is_told number ≡ true
   told_there number entry less at pending gone =
-      gone_told book.names (is_numbered book.names number) book.entries 0 number number entry (omega arith) passes at pending gone
-    where
-      named : number_of (slice_index book.names number) book.names ≡ Some number
-      named =
-          subst (λ (o : Option ℕ). IfSome o (λ (name : ℕ). number_of name book.names ≡ Some number)) (slice_get-get_or book.names number 0 less)
-          (blobs.names number)
-
-      passes : is_numbered book.names number (slice_index book.names number) ≡ true
-      passes = ap {B = Bool} (λ (o : Option ℕ). option_map_or (λ (one : ℕ). one == number) o false) named ∙ eq-eqb number number refl
+      gone_told book.names (is_numbered book.names number) book.entries 0 number number entry (omega arith)
+      (own_number book.names number less (blobs.names number)) at pending gone
 
   module _ (kept : (slot : ℕ) → 0 < count_at later slot → item_at later slot ≡ item_at shares slot)
       (charged : Charged now_book.entries later now_rows queue now_files now_held) where
-    -- a viewed item is where it was
-    viewed_kept : (number : ℕ) (entry : Entry) → entry_at now_book.entries number ≡ Some entry → (slot : ℕ)
-        → 0 < views_on slot (held_views entry) → item_at later slot ≡ item_at shares slot
-    viewed_kept number entry at slot some =
-        let within = in_at now_book.entries number slot in
-        let own : on_held slot (entry_at now_book.entries number) ≡ views_on slot (held_views entry) = ap (on_held slot) at in
-        let count = charged.counts slot in
-        kept slot (omega (arith, within, own, count, some))
-
     view_one : (number : ℕ) (was : Option Entry) (b : Bool) → entry_at now_book.entries number ≡ left b was → IfSome was (Views shares)
         → IfSome (left b was) (Views later)
     view_one number None true at are = tt
@@ -189,7 +199,8 @@ module _ (page : ℕ) (book : Book) (shares later : List (Option Share)) (rows :
             → entry_at now_book.entries number ≡ Some (cond b (record entry { recipe = []; own = None; views = [] }) entry)
             → Views later (cond b (record entry { recipe = []; own = None; views = [] }) entry)
         go true broken at = record { inside = tt; there = tt }
-        go false broken at = views_kept shares later entry (viewed_kept number entry at) are
+        go false broken at =
+            views_kept shares later entry (viewed_kept shares later now_book.entries now_rows queue now_files now_held charged kept number entry at) are
 
     views_left : (number : ℕ) → IfSome (entry_at now_book.entries number) (Views later)
     views_left number =

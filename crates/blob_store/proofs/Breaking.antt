@@ -40,6 +40,8 @@ module _ (renderer : RendererId) (name : ℕ) (kind : List ℕ) (why : Status) (
         put = subst (λ (shares : List (Option Share)). ArePut old.shares [] [] shares) same_shares (put_none old.shares);
         handles = breaks.handles;
         counts = breaks.counts;
+        owner = refl;
+        lists = breaks.lists;
         rest = breaks.rest ∙ (λ i. record old {
           registry = pushed old.registry name (arrived renderer kind (broken_arrival why (first_piece old) line));
           shares = same_shares i;
@@ -49,6 +51,7 @@ module _ (renderer : RendererId) (name : ℕ) (kind : List ℕ) (why : Status) (
           pages = record old.pages { reserved = reserved i };
           held = held i;
           renderers = now.renderers;
+          transits = now.transits;
           weight = old.weight + 0;
         });
       }

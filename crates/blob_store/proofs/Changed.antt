@@ -18,7 +18,7 @@ abbrev Entries : Type 0
 Entries = List (Option Entry)
 
 -- what stands under the number is changed, if something does
-at_here : (change : Entry → Entry) (entries : Entries) (number : ℕ)
+pub at_here : (change : Entry → Entry) (entries : Entries) (number : ℕ)
     → entry_at (set entries number (option_map change (entry_at entries number))) number ≡ option_map change (entry_at entries number)
 at_here change [] number = refl
 at_here change (held ∷ entries) zero = refl

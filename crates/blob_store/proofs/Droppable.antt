@@ -26,7 +26,7 @@ readers_seen name (one ∷ readers) =
     let said = sum_by-cons (said_reads name) (reader_of one).1 (values_of (map reader_of readers)) in
     omega (arith, mine, said, readers_seen name readers)
 
-roots_seen : (parts : Parts) → Whole parts → AreRooted (parts_of parts)
+pub roots_seen : (parts : Parts) → Whole parts → AreRooted (parts_of parts)
 roots_seen parts whole name = omega (arith, whole.holders.roots name, readers_seen name parts.readers)
 
 -- where the numbers of the living renderers are in order, the drops owed are told behind each line

@@ -19,7 +19,7 @@ use Rattle.blob_model.specs.Refusals.{refusal}
 use Rattle.blob_model.specs.Session.{page_limit, Session}
 use Rattle.store_laws.specs.Stands.{Stands}
 use Rattle.store_laws.proofs.LineRefusals.{own_accepted}
-use Rattle.store_laws.proofs.Losing.{job_lines_stand}
+use Rattle.store_laws.proofs.JobLines.{job_lines_stand}
 use Rattle.store_laws.proofs.Unmarked.{none_marked}
 use Rattle.blob_store.specs.declared.parts.Parts.{Parts}
 use Rattle.blob_store.specs.declared.row.Row.{Row}
@@ -63,6 +63,7 @@ whole_lost parts whole = record {
     known = whole.blobs.known;
     weighed = whole.blobs.weighed;
   };
+  transits = whole.transits;
   holders = whole.holders;
 }
   where
@@ -73,7 +74,7 @@ whole_lost parts whole = record {
     still (Some row) (Some entry) is = record {
       comes = is.comes;
       owned = is.owned;
-      unused = λ pending piece from to. ((is.unused pending piece from to).0, refl);
+      unused = λ pending piece from to. ((is.unused pending piece from to).0, λ none. refl);
     }
 
 module _ (s : Session) (groups : List Group) (parts : Parts) (told : Option (List Change)) (table : Table) (legal : IsLegalFrom s start groups)

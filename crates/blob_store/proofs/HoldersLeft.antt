@@ -21,7 +21,7 @@ use Rattle.blob_store.specs.Readers.{reader_at, readers_of, reads}
 use Rattle.blob_store.specs.Roots.{roots_at}
 use Rattle.blob_store.proofs.SweptEntries.{left_at, IsLeft}
 
-abbrev roots_if : Option Entry → ℕ
+abbrev pub roots_if : Option Entry → ℕ
 roots_if held = option_map_or (λ (entry : Entry). entry.roots) held 0
 
 shed_roots : (entry : Entry) → (shed entry).roots ≡ entry.roots
@@ -67,7 +67,7 @@ left_open held now size one some is =
         go false unbroken = is unbroken
 
 -- an open reader is one of its blob
-read_once : (number : ℕ) (reader : OpenReader) (readers : List (ℕ × OpenReader)) → reader_at number readers ≡ Some reader
+pub read_once : (number : ℕ) (reader : OpenReader) (readers : List (ℕ × OpenReader)) → reader_at number readers ≡ Some reader
     → 0 < readers_of reader.blob readers
 read_once number reader readers at =
     let sums = sum_by-remove_entry (reads reader.blob) (is_at (nat_cmp number)) readers in

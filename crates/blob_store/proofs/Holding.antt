@@ -39,8 +39,11 @@ use Rattle.blob_store.proofs.Changed.{awaited_changed, entry_changed, held_chang
 use Rattle.blob_store.proofs.Rooting.{handles_moved}
 use Rattle.blob_store.proofs.Faults.{none_due}
 use Rattle.blob_store.proofs.Owning.{owned_same}
+use Rattle.store_laws.specs.Marking.{is_short}
+use Rattle.blob_store.specs.Transits.{is_listed}
+use Rattle.blob_store.proofs.Listed.{IsListed}
 
--- a change of the roots alone
+-- a change of the roots, or of the mark, alone
 pub record Reroots (change : Entry → Entry) : Type 0 where
   pub views : (entry : Entry) → held_views (change entry) ≡ held_views entry
   pub bytes : (entry : Entry) → (change entry).views ≡ entry.views
@@ -48,14 +51,34 @@ pub record Reroots (change : Entry → Entry) : Type 0 where
   pub size : (entry : Entry) → (change entry).size ≡ entry.size
   pub status : (entry : Entry) → (change entry).status ≡ entry.status
   pub own : (entry : Entry) → (change entry).own ≡ entry.own
+  pub owner : (entry : Entry) → (change entry).owner ≡ entry.owner
+  pub short : (entry : Entry) → is_short (change entry) ≡ true → is_short entry ≡ true
 
 pub less_reroots : Reroots held_less
 less_reroots =
-    record { views = λ entry. refl; bytes = λ entry. refl; recipe = λ entry. refl; size = λ entry. refl; status = λ entry. refl; own = λ entry. refl }
+    record {
+      views = λ entry. refl;
+      bytes = λ entry. refl;
+      recipe = λ entry. refl;
+      size = λ entry. refl;
+      status = λ entry. refl;
+      own = λ entry. refl;
+      owner = λ entry. refl;
+      short = λ entry is. is;
+    }
 
 pub more_reroots : Reroots held_more
 more_reroots =
-    record { views = λ entry. refl; bytes = λ entry. refl; recipe = λ entry. refl; size = λ entry. refl; status = λ entry. refl; own = λ entry. refl }
+    record {
+      views = λ entry. refl;
+      bytes = λ entry. refl;
+      recipe = λ entry. refl;
+      size = λ entry. refl;
+      status = λ entry. refl;
+      own = λ entry. refl;
+      owner = λ entry. refl;
+      short = λ entry is. is;
+    }
 
 -- the roots of a name, once one fewer holds what stands under a name
 pub roots_less : (book : Book) (name other : ℕ)
@@ -87,11 +110,16 @@ module _ (change : Entry → Entry) (reroots : Reroots change) where
   views_still : (shares : List (Option Share)) (entry : Entry) → Views shares entry → Views shares (change entry)
   views_still shares entry is = record {
     inside = subst (AllByRecursion (IsInside shares)) (sym (reroots.views entry)) is.inside;
-    there = subst (AllByRecursion (λ (view : View). IfSome (item_at shares view.slot) IsThere)) (sym (reroots.bytes entry)) is.there;
+    there = subst (AllByRecursion (λ (view : View). IfSome (item_at shares view.slot) IsThere)) (sym (reroots.views entry)) is.there;
   }
 
+  -- whoever is short is listed
+  pub listed_still : (transits : List (ℕ × List ℕ)) (number : ℕ) (entry : Entry) → IsListed transits number entry → IsListed transits number (change entry)
+  listed_still transits number entry is short =
+      subst (λ (owner : RendererId). is_listed owner.0 number transits ≡ true) (sym (reroots.owner entry)) (is (reroots.short entry short))
+
   -- entries agree with items and rows as before
-  blobs_changed : {page : ℕ} {shares : List (Option Share)} {rows : List Row} {quota : Queue} {files : Files} {order : List (ℕ × ℕ)} {held : ℕ} (book : Book)
+  pub blobs_changed : {page : ℕ} {shares : List (Option Share)} {rows : List Row} {quota : Queue} {files : Files} {order : List (ℕ × ℕ)} {held : ℕ} (book : Book)
       (number : ℕ) → Blobs page book shares rows quota files order held → Blobs page (changed_at book number change) shares rows quota files order held
   blobs_changed {page} {shares} {rows} {quota} {files} {order} book number blobs = record {
     charged = record {
@@ -152,11 +180,14 @@ module _ (change : Entry → Entry) (reroots : Reroots change) where
       by None roots few are = record {
         stored = whole.stored;
         blobs = whole.blobs;
+        transits = whole.transits;
         holders = record { living = living; roots = roots; few = few; readers = are; owned = owned; opened = opened };
       }
       by (Some number) roots few are = record {
         stored = whole.stored;
         blobs = blobs_changed parts.registry number whole.blobs;
+        transits = λ other. held_changed (IsListed parts.transits other) change (listed_still parts.transits other) parts.registry.entries
+            number other (whole.transits other);
         holders = record { living = living; roots = roots; few = few; readers = are; owned = owned; opened = opened };
       }
 
@@ -219,6 +250,7 @@ pub whole_counted : (parts : Parts) → Whole parts → Whole (with_line parts)
 whole_counted parts whole = record {
   stored = whole.stored;
   blobs = whole.blobs;
+  transits = whole.transits;
   holders = record {
     living = whole.holders.living;
     roots = whole.holders.roots;

@@ -264,7 +264,7 @@ module _ (homes : List ℕ) (files : Files) (shares later : List (Option Share))
   home_of slot number (File name stamp off len) is home = absurd (cc is)
   home_of slot number (Range handle off len) is home = absurd (cc is)
 
-  home_at : (slot number : ℕ) → piece_at shares slot ≡ Some number → slice_get homes number ≡ Some slot
+  pub home_at : (slot number : ℕ) → piece_at shares slot ≡ Some number → slice_get homes number ≡ Some slot
   home_at slot number is = by (item_at shares slot) is (items slot)
     where
       by : (o : Option Item) → piece_by o ≡ Some number → IfSome o (IsHeld homes files.pages slot) → slice_get homes number ≡ Some slot

@@ -163,7 +163,7 @@ module _ (names : List ℕ) (entries : List (Option Entry)) (slot : ℕ) where
 
 -- ---- the entries together
 
-some_viewed : (slot : ℕ) (entries : List (Option Entry)) → 0 < views_in entries slot → (number : ℕ) × (0 < on_held slot (entry_at entries number))
+pub some_viewed : (slot : ℕ) (entries : List (Option Entry)) → 0 < views_in entries slot → (number : ℕ) × (0 < on_held slot (entry_at entries number))
 some_viewed slot [] some = absurd (omega (arith, some))
 some_viewed slot (held ∷ entries) some = by (on_held slot held) refl (some_viewed slot entries)
   where

@@ -32,53 +32,74 @@ way_piece number len false (Paged piece page off size) is = absurd is
 way_piece number len false (File name stamp off size) is = absurd is
 way_piece number len false (Range handle off size) is = absurd is
 
-some_piece : (number len : ℕ) (came : Bool) (o : Option Item) → IsSomeAnd o (IsOnItsWay number len came) → IsSomeAnd o HoldsPiece
-some_piece number len came None is = absurd is
-some_piece number len came (Some item) is = way_piece number len came item is
+-- an item that isn't in memory
+abbrev pub IsElsewhere : Item → Type 0
+IsElsewhere (Memory piece bytes) = ⊥
+IsElsewhere item = Unit {0}
 
-module _ (shares : List (Option Share)) where
-  way_pieces : (lengths slots : List ℕ) (came : List Bool) (number slot : ℕ) → AreOnTheirWay shares number lengths slots came
-      → 0 < count_by (λ (each : ℕ). each == slot) slots → IsSomeAnd (item_at shares slot) HoldsPiece
-  way_pieces [] [] [] number slot are some = absurd (let none : count_by (λ (each : ℕ). each == slot) [] ≡ 0 = refl in omega (arith, none, some))
-  way_pieces [] [] (one ∷ came) number slot are some = absurd are
-  way_pieces [] (one ∷ slots) came number slot are some = absurd are
-  way_pieces (len ∷ lengths) [] came number slot are some = absurd are
-  way_pieces (len ∷ lengths) (one ∷ slots) [] number slot are some = absurd are
-  way_pieces (len ∷ lengths) (one ∷ slots) (first ∷ came) number slot are some =
-      go (one == slot) refl (way_pieces lengths slots came (number + 1) slot are.1)
+way_elsewhere : (number len : ℕ) (came : Bool) (item : Item) → IsOnItsWay number len came item → IsElsewhere item
+way_elsewhere number len true (Memory piece bytes) is = absurd is
+way_elsewhere number len false (Memory piece bytes) is = absurd is
+way_elsewhere number len came (Paged piece page off size) is = tt
+way_elsewhere number len came (Reserved piece size) is = tt
+way_elsewhere number len came (File name stamp off size) is = tt
+way_elsewhere number len came (Range handle off size) is = tt
+
+-- what each item on its way has, those of slots with a pin have
+module _ (P : Item → Type 0) (way : (number len : ℕ) (came : Bool) (item : Item) → IsOnItsWay number len came item → P item)
+    (shares : List (Option Share)) where
+  some_way : (number len : ℕ) (came : Bool) (o : Option Item) → IsSomeAnd o (IsOnItsWay number len came) → IsSomeAnd o P
+  some_way number len came None is = absurd is
+  some_way number len came (Some item) is = way number len came item is
+
+  way_items : (lengths slots : List ℕ) (came : List Bool) (number slot : ℕ) → AreOnTheirWay shares number lengths slots came
+      → 0 < count_by (λ (each : ℕ). each == slot) slots → IsSomeAnd (item_at shares slot) P
+  way_items [] [] [] number slot are some = absurd (let none : count_by (λ (each : ℕ). each == slot) [] ≡ 0 = refl in omega (arith, none, some))
+  way_items [] [] (one ∷ came) number slot are some = absurd are
+  way_items [] (one ∷ slots) came number slot are some = absurd are
+  way_items (len ∷ lengths) [] came number slot are some = absurd are
+  way_items (len ∷ lengths) (one ∷ slots) [] number slot are some = absurd are
+  way_items (len ∷ lengths) (one ∷ slots) (first ∷ came) number slot are some =
+      go (one == slot) refl (way_items lengths slots came (number + 1) slot are.1)
     where
-      go : (b : Bool) → (one == slot) ≡ b → (0 < count_by (λ (each : ℕ). each == slot) slots → IsSomeAnd (item_at shares slot) HoldsPiece)
-          → IsSomeAnd (item_at shares slot) HoldsPiece
-      go true at rest =
-          subst (λ (k : ℕ). IsSomeAnd (item_at shares k) HoldsPiece) (eqb-true one slot at)
-          (some_piece number len first (item_at shares one) are.0)
+      go : (b : Bool) → (one == slot) ≡ b → (0 < count_by (λ (each : ℕ). each == slot) slots → IsSomeAnd (item_at shares slot) P)
+          → IsSomeAnd (item_at shares slot) P
+      go true at rest = subst (λ (k : ℕ). IsSomeAnd (item_at shares k) P) (eqb-true one slot at) (some_way number len first (item_at shares one) are.0)
       go false at rest =
           let sum = count_first one slots slot in
           let none = ap {B = ℕ} (λ (b : Bool). cond b 1 0) at in rest (omega (arith, sum, none, some))
 
-  row_pieces : (limits : Limits) (row : Row) (sending : Sending) (slot : ℕ) → IsSendingOf limits shares row sending
-      → 0 < count_by (λ (each : ℕ). each == slot) (sending_slots sending) → IsSomeAnd (item_at shares slot) HoldsPiece
-  row_pieces limits row Settled slot is some = absurd (let none : count_by (λ (each : ℕ). each == slot) [] ≡ 0 = refl in omega (arith, none, some))
-  row_pieces limits row Waiting slot is some = absurd (let none : count_by (λ (each : ℕ). each == slot) [] ≡ 0 = refl in omega (arith, none, some))
-  row_pieces limits row (Gathering segments) slot is some =
+  row_items : (limits : Limits) (row : Row) (sending : Sending) (slot : ℕ) → IsSendingOf limits shares row sending
+      → 0 < count_by (λ (each : ℕ). each == slot) (sending_slots sending) → IsSomeAnd (item_at shares slot) P
+  row_items limits row Settled slot is some = absurd (let none : count_by (λ (each : ℕ). each == slot) [] ≡ 0 = refl in omega (arith, none, some))
+  row_items limits row Waiting slot is some = absurd (let none : count_by (λ (each : ℕ). each == slot) [] ≡ 0 = refl in omega (arith, none, some))
+  row_items limits row (Gathering segments) slot is some =
       absurd (let none : count_by (λ (each : ℕ). each == slot) [] ≡ 0 = refl in omega (arith, none, some))
-  row_pieces limits row (Writing slots came) slot is some =
-      way_pieces (flat_map (piece_lengths limits.page) row.lengths) slots came row.first slot is some
+  row_items limits row (Writing slots came) slot is some = way_items (flat_map (piece_lengths limits.page) row.lengths) slots came row.first slot is some
 
-  -- what is pinned is a piece
-  pub pinned_pieces : (limits : Limits) (rows : List Row) → ((number : ℕ) → IfSome (slice_get rows number) (RowStored limits shares)) → (slot : ℕ)
-      → 0 < pins slot rows → IsSomeAnd (item_at shares slot) HoldsPiece
-  pinned_pieces limits [] stored slot some = absurd (let none : pins slot [] ≡ 0 = refl in omega (arith, none, some))
-  pinned_pieces limits (row ∷ rows) stored slot some =
-      go (count_by (λ (each : ℕ). each == slot) (sending_slots row.sending)) refl (pinned_pieces limits rows (λ number. stored (suc number)) slot)
+  pub pinned_items : (limits : Limits) (rows : List Row) → ((number : ℕ) → IfSome (slice_get rows number) (RowStored limits shares)) → (slot : ℕ)
+      → 0 < pins slot rows → IsSomeAnd (item_at shares slot) P
+  pinned_items limits [] stored slot some = absurd (let none : pins slot [] ≡ 0 = refl in omega (arith, none, some))
+  pinned_items limits (row ∷ rows) stored slot some =
+      go (count_by (λ (each : ℕ). each == slot) (sending_slots row.sending)) refl (pinned_items limits rows (λ number. stored (suc number)) slot)
     where
       parted : pins slot (row ∷ rows) ≡ count_by (λ (each : ℕ). each == slot) (sending_slots row.sending) + pins slot rows
       parted = sum_by-append (λ (one : ℕ). cond (one == slot) 1 0) (sending_slots row.sending) (flat_map (λ (each : Row). sending_slots each.sending) rows)
 
       go : (n : ℕ) → count_by (λ (each : ℕ). each == slot) (sending_slots row.sending) ≡ n
-          → (0 < pins slot rows → IsSomeAnd (item_at shares slot) HoldsPiece) → IsSomeAnd (item_at shares slot) HoldsPiece
+          → (0 < pins slot rows → IsSomeAnd (item_at shares slot) P) → IsSomeAnd (item_at shares slot) P
       go zero at rest = let sum = parted in rest (omega (arith, sum, at, some))
-      go (suc n) at rest = row_pieces limits row row.sending slot (stored 0).sending (omega (arith, at))
+      go (suc n) at rest = row_items limits row row.sending slot (stored 0).sending (omega (arith, at))
+
+module _ (shares : List (Option Share)) (limits : Limits) (rows : List Row) (stored : (number : ℕ) → IfSome (slice_get rows number) (RowStored limits shares))
+    (slot : ℕ) (some : 0 < pins slot rows) where
+  -- what is pinned is a piece
+  pub pinned_pieces : IsSomeAnd (item_at shares slot) HoldsPiece
+  pinned_pieces = pinned_items HoldsPiece way_piece shares limits rows stored slot some
+
+  -- and not in memory
+  pub pinned_elsewhere : IsSomeAnd (item_at shares slot) IsElsewhere
+  pinned_elsewhere = pinned_items IsElsewhere way_elsewhere shares limits rows stored slot some
 
 pub own_of : (limits : Limits) (shares : List (Option Share)) (row : Row) (sending : Sending) → IsSendingOf limits shares row sending
     → AreOwn limits.page row.lengths sending

@@ -51,7 +51,7 @@ eq_of one other r is = ap is_eq is
 pub same_here : (number : ℕ) → is_at (nat_cmp number) number ≡ true
 same_here number = unsigned_tied number number ∙ eq-eqb number number refl
 
-equal_here : (one other : ℕ) → is_at (nat_cmp one) other ≡ true → one ≡ other
+pub equal_here : (one other : ℕ) → is_at (nat_cmp one) other ≡ true → one ≡ other
 equal_here one other at = eqb-true one other (sym (unsigned_tied one other) ∙ at)
 
 all_above : (low high : ℕ) (numbers : List ℕ) → nat_cmp low high ≡ Less → AllByRecursion (λ number. nat_cmp high number ≡ Less) numbers

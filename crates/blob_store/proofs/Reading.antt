@@ -67,7 +67,9 @@ module _ (parts : Parts) (told : Option (List Change)) (table : HandleTable) (wh
       here : Views parts.shares entry → AllByRecursion (ViewLies (origins parts.files told table) parts.shares) entry.views
       here views =
           all_lie entry.views
-          (append_second (IsInside parts.shares) (fixed_views entry.recipe ++ own_views entry.own) entry.views views.inside) views.there
+          (append_second (IsInside parts.shares) (fixed_views entry.recipe ++ own_views entry.own) entry.views views.inside)
+          (append_second (λ (view : View). IfSome (item_at parts.shares view.slot) IsThere)
+          (fixed_views entry.recipe ++ own_views entry.own) entry.views views.there)
 
       by : (found : Option ℕ) → option_and_then (entry_at parts.registry.entries) found ≡ Some entry
           → AllByRecursion (ViewLies (origins parts.files told table) parts.shares) entry.views
@@ -191,6 +193,7 @@ module _ (parts : Parts) (whole : Whole parts) (number : ℕ) (reader : OpenRead
           known = whole.blobs.known;
           weighed = whole.blobs.weighed;
         };
+        transits = whole.transits;
         holders = record {
           living = whole.holders.living;
           roots = λ name. let roots = whole.holders.roots name in let same = moves.reading name in omega (arith, roots, same);

@@ -29,6 +29,7 @@ use Rattle.blob_store.specs.Blobs.{AreKnown, Awaits, Blobs, IsAwaited, Views}
 use Rattle.blob_store.specs.Holders.{IsOpen, Owned}
 use Rattle.blob_store.specs.Stored.{row_weights}
 use Rattle.blob_store.specs.Whole.{Whole}
+use Rattle.blob_store.proofs.Listed.{IsListed}
 
 abbrev Entries : Type 0
 Entries = List (Option Entry)
@@ -143,6 +144,8 @@ pub whole_same : (parts : Parts) (book : Book) (renderers : Table) (urls : List 
 whole_same parts book renderers urls readers whole same living roots few are opened owned = record {
   stored = whole.stored;
   blobs = blobs_same parts.registry book same whole.blobs;
+  transits = λ number. if_same (IsListed parts.transits number) (λ entry roots is. is) (entry_at book.entries number)
+      (entry_at parts.registry.entries number) (same_at book.entries parts.registry.entries same.entries number) (whole.transits number);
   holders = record {
     living = living;
     roots = roots;

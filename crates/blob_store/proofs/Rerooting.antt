@@ -99,7 +99,16 @@ fewer k entry = with_roots (entry.roots - k) entry
 
 fewer_reroots : (k : ℕ) → Reroots (fewer k)
 fewer_reroots k =
-    record { views = λ entry. refl; bytes = λ entry. refl; recipe = λ entry. refl; size = λ entry. refl; status = λ entry. refl; own = λ entry. refl }
+    record {
+      views = λ entry. refl;
+      bytes = λ entry. refl;
+      recipe = λ entry. refl;
+      size = λ entry. refl;
+      status = λ entry. refl;
+      own = λ entry. refl;
+      owner = λ entry. refl;
+      short = λ entry is. is;
+    }
 
 pub roots_fewer : (book : Book) (name k other : ℕ)
     → roots_at (changed book name (fewer k)) other ≡ cond (name == other) (roots_at book other - k) (roots_at book other)
@@ -347,4 +356,4 @@ whole_closed parts number reader readers whole there closes =
 -- ---- files
 
 pub whole_filed : (parts : Parts) (files : List (List ℕ × FileNote)) → Whole parts → Whole (record parts { files = files })
-whole_filed parts files whole = record { stored = whole.stored; blobs = whole.blobs; holders = whole.holders }
+whole_filed parts files whole = record { stored = whole.stored; blobs = whole.blobs; transits = whole.transits; holders = whole.holders }

@@ -1,11 +1,12 @@
 -- What rows are once some are settled.
-use Rattle.std.proofs.Common.{◌≡◌, ℕ, zero, suc, ◌+◌, ◌≤◌, ◌==◌, ◌||◌, Bool, true, false, List, [], ◌∷◌, Option, Some, None, length, map, refl, ap, subst, sym}
-use Rattle.std.proofs.Common.{◌∙◌, arith}
-use Rattle.std.specs.Prelude.{fold, slice_get, sum_by}
+use Rattle.std.proofs.Common.{◌≡◌, ℕ, zero, suc, ◌+◌, ◌<◌, ◌≤◌, ◌==◌, ◌||◌, Bool, true, false, List, [], ◌∷◌, Option, Some, None, length, map, refl}
+use Rattle.std.proofs.Common.{ap, subst, sym, ◌∙◌, arith}
+use Rattle.std.specs.Prelude.{fold, slice_get, slice_index, sum_by, IfSome}
 use Rattle.std.specs.List.{list_any}
 use Rattle.std.specs.Option.{option_map, option_map_or}
 use Rattle.std.proofs.lemmas.Bool.{eq-eqb, eqb-true}
 use Rattle.std.proofs.lemmas.List.Sums.{sum_by-cons}
+use Rattle.std.proofs.lemmas.Option.{slice_get-get_or}
 use Rattle.blob_entries.specs.Names.{number_of}
 use Rattle.blob_model.proofs.Lists.{false_true}
 use Rattle.blob_store.specs.declared.row.Row.{Row}
@@ -20,6 +21,15 @@ settled_if false row = row
 -- whether the name has this number
 abbrev pub is_numbered : List ℕ → ℕ → ℕ → Bool
 is_numbered names number name = option_map_or (λ (one : ℕ). one == number) (number_of name names) false
+
+-- the name of a number has this number, where names differ
+pub own_number : (names : List ℕ) (number : ℕ) → number < length names
+    → IfSome (slice_get names number) (λ (name : ℕ). number_of name names ≡ Some number)
+    → is_numbered names number (slice_index names number) ≡ true
+own_number names number less is =
+    let named : number_of (slice_index names number) names ≡ Some number =
+    subst (λ (o : Option ℕ). IfSome o (λ (name : ℕ). number_of name names ≡ Some number)) (slice_get-get_or names number 0 less) is in
+    ap {B = Bool} (λ (o : Option ℕ). option_map_or (λ (one : ℕ). one == number) o false) named ∙ eq-eqb number number refl
 
 eq_suc : (n k : ℕ) → (suc n == suc k) ≡ (n == k)
 eq_suc n k = go (n == k) refl

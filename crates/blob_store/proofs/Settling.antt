@@ -65,7 +65,7 @@ sum_settled f (one ∷ rows) (suc number) row at =
 abbrev pub pins_of : ℕ → Row → ℕ
 pins_of slot row = count_by (λ (one : ℕ). one == slot) (sending_slots row.sending)
 
-pins_sum : (slot : ℕ) (rows : List Row) → pins slot rows ≡ sum_by (pins_of slot) rows
+pub pins_sum : (slot : ℕ) (rows : List Row) → pins slot rows ≡ sum_by (pins_of slot) rows
 pins_sum slot [] = refl
 pins_sum slot (row ∷ rows) =
     let parted : pins slot (row ∷ rows) ≡ pins_of slot row + pins slot rows =

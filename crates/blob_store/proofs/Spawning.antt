@@ -40,6 +40,7 @@ pub whole_spawned : (parts : Parts) (id : ℕ) (origin : List ℕ) (renderers : 
 whole_spawned parts id origin renderers whole fresh is spawns = record {
   stored = whole.stored;
   blobs = whole.blobs;
+  transits = whole.transits;
   holders = record {
     living = living;
     roots = λ name. let same = handles name in omega (arith, whole.holders.roots name, same);

@@ -23,6 +23,7 @@ use Rattle.blob_store.proofs.HoldersLeft.{holders_left}
 use Rattle.blob_store.proofs.OnTheirWay.{own_of, pinned_pieces}
 use Rattle.blob_store.proofs.PiecesGoing.{fold_append, freed_more}
 use Rattle.blob_store.proofs.StoredLeft.{stored_left}
+use Rattle.blob_store.proofs.Listed.{listed_left}
 
 -- ---- behind the sweep
 
@@ -142,5 +143,6 @@ module _ (old new : Parts) (names : List ℕ) (freed : List Item) (whole : Whole
             whole.blobs.charged.held_so charged_now.held_so refl;
         blobs = blobs_left old.limits.page old.registry old.shares new.shares old.rows old.quota now.quota old.pages now.pages old.recent old.held new.held
             all_freed whole.blobs goes.kept charged_now refl refl;
+        transits = listed_left old.registry old.transits whole.transits;
         holders = holders_left old.registry old.renderers old.urls old.readers old.lines whole.holders;
       })

@@ -20,7 +20,7 @@ use Rattle.blob_entries.specs.Weights.{cut_weight}
 use Rattle.blob_entries.specs.declared.entry.Entry.{Entry}
 use Rattle.blob_entries.specs.declared.step.Step.{Step}
 use Rattle.blob_entries.specs.declared.step.Step.TheVariants.{Own, Fixed, Source}
-use Rattle.page_files.specs.Files.{Files}
+use Rattle.page_files.specs.Files.{source_of, Files}
 use Rattle.page_files.specs.declared.job.Job.{Job}
 use Rattle.quota_queue.specs.Queue.{Queue}
 use Rattle.recent_items.specs.Recent.{is_there}
@@ -45,10 +45,10 @@ abbrev pub IsThere : Item → Type 0
 IsThere (Reserved piece len) = ⊥
 IsThere item = Unit {0}
 
--- the views of an entry lie inside items, and those of its bytes on items that are there
+-- the views of an entry lie inside items, which are there
 pub record Views (shares : List (Option Share)) (entry : Entry) : Type 0 where
   pub inside : AllByRecursion (IsInside shares) (held_views entry)
-  pub there : AllByRecursion (λ (view : View). IfSome (item_at shares view.slot) IsThere) entry.views
+  pub there : AllByRecursion (λ (view : View). IfSome (item_at shares view.slot) IsThere) (held_views entry)
 
 -- the blob that a step is of was built
 abbrev pub IsKnown : List ℕ → Step → Type 0
@@ -80,13 +80,13 @@ pub record Charged (entries : List (Option Entry)) (shares : List (Option Share)
 -- how bytes come for a blob of this status: they wait until it is granted, and come until it has them
 abbrev pub Comes : Status → Option (List View) → Sending → Type 0
 Comes status own Settled = Unit {0}
-Comes status own Waiting = status ≡ PendingQuota
+Comes status own Waiting = (status ≡ PendingQuota) × (own ≡ None)
 Comes status own (Gathering segments) = (status ≡ PendingTransport) × (own ≡ None)
 Comes status own (Writing slots came) = (status ≡ PendingTransport) × (own ≡ None)
 
--- a piece is neither in the order of use nor in the job in flight
+-- a piece is neither in the order of use nor in a page job in flight; one that is in a page file may be moved out of it
 abbrev pub IsUnused : List (ℕ × ℕ) → Option Job → ℕ → Type 0
-IsUnused order job piece = (is_there piece order ≡ false) × (is_flying piece job ≡ false)
+IsUnused order job piece = (is_there piece order ≡ false) × (source_of job ≡ None → is_flying piece job ≡ false)
 
 -- the same of the pieces of a blob
 abbrev pub AreUnused : ℕ → List (ℕ × ℕ) → Option Job → Row → Type 0

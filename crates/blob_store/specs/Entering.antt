@@ -1,5 +1,5 @@
 -- The entry and the row of a blob that comes. Own.
-use Rattle.std.specs.Prelude.{ℕ, ◌≡◌, ◌+◌, List, [], ◌∷◌, ◌++◌, Option, None, Some}
+use Rattle.std.specs.Prelude.{ℕ, ◌≡◌, ◌+◌, List, [], ◌∷◌, ◌++◌, length, Option, None, Some}
 use Rattle.blob_words.specs.declared.number.RendererId.{RendererId}
 use Rattle.blob_words.specs.declared.plan.Plan.{Plan}
 use Rattle.blob_words.specs.declared.status.Status.{Status}
@@ -14,7 +14,9 @@ use Rattle.renderer_table.specs.Counted.{ChangesCount}
 use Rattle.renderer_table.specs.Counts.{one_more}
 use Rattle.renderer_table.specs.Table.{counts_of, with_counts}
 use Rattle.store_laws.specs.Arrivals.{own_by, status_by}
+use Rattle.store_laws.specs.Marking.{lacks}
 use Rattle.store_laws.specs.PartLaws.{recipe_of}
+use Rattle.blob_store.specs.Transits.{Lists}
 use Rattle.blob_store.specs.declared.building.entering.Arrival.{Arrival}
 use Rattle.blob_store.specs.declared.building.laying.Laid.{Laid}
 use Rattle.blob_store.specs.declared.parts.Parts.{Parts}
@@ -40,15 +42,17 @@ abbrev pub AreAtHand : Arrival → Option (List View) → Type 0
 AreAtHand arrival None = Unit {0}
 AreAtHand arrival (Some own) = (arrival.status ≡ statuses.PendingReferencedBlobs) × AreOwn arrival.recipe own
 
--- the parts with its entry, a handle of its builder on it, and its row
+-- the parts with its entry, a handle of its builder on it, its row, and its number listed where its bytes or room are to come
 pub record Enters (renderer : RendererId) (name : ℕ) (entry : Entry) (row : Row) (old now : Parts) : Type 0 where
   pub handles : now.renderers ≡ with_counts renderer.0 (one_more name (counts_of renderer.0 old.renderers)) old.renderers
   pub counts : ChangesCount (λ (count : ℕ). count + 1) renderer.0 name old.renderers now.renderers
+  pub lists : Lists renderer.0 (length old.registry.names) (lacks entry.status) old.transits now.transits
   pub rest : now ≡ record old {
     registry = pushed old.registry name entry;
     rows = old.rows ++ row ∷ [];
     weight = old.weight + row.weight;
     renderers = now.renderers;
+    transits = now.transits;
   }
 
 -- ---- what arrives

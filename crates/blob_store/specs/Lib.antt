@@ -2,6 +2,7 @@ pub mod Owners
 pub mod Readers
 pub mod Reading
 pub mod Rows
+pub mod Transits
 pub mod Roots
 pub mod Stored
 pub mod Blobs
@@ -17,6 +18,7 @@ pub mod Departing
 pub mod Dropping
 pub mod Unheld
 pub mod Passing
+pub mod Ending
 pub mod NewItems
 pub mod Putting
 pub mod Arriving
@@ -26,3 +28,10 @@ pub mod Entering
 pub mod Adding
 pub mod Admitting
 pub mod Steps
+pub mod Telling
+pub mod Granting
+pub mod Paging
+pub mod Closing
+pub mod Compacting
+pub mod Settling
+pub mod Grouping

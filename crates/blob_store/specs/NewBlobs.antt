@@ -16,11 +16,13 @@ use Rattle.renderer_table.specs.Counted.{ChangesCount}
 use Rattle.renderer_table.specs.Counts.{one_more}
 use Rattle.renderer_table.specs.Table.{counts_of, with_counts}
 use Rattle.store_laws.specs.Items.{piece_of_item}
+use Rattle.store_laws.specs.Marking.{lacks}
 use Rattle.store_laws.specs.Weights.{memory_weight, piece_weight, range_weight, reserved_weight}
 use Rattle.blob_store.specs.Blobs.{AreKnown, Awaits, Views}
 use Rattle.blob_store.specs.Putting.{ArePut, is_seen}
 use Rattle.blob_store.specs.Rows.{gathered_bytes, gathered_pieces, pieces_of_row, pieces_waiting, pins, waits_by}
 use Rattle.blob_store.specs.Stored.{IsHeld, RowStored, row_weights}
+use Rattle.blob_store.specs.Transits.{Lists}
 use Rattle.blob_store.specs.declared.parts.Parts.{Parts}
 use Rattle.blob_store.specs.declared.row.Row.{Row}
 
@@ -38,6 +40,8 @@ pub record Grows (new : NewBlob) (renderer : ℕ) (old now : Parts) : Type 0 whe
   pub put : ArePut old.shares new.items new.views now.shares
   pub handles : now.renderers ≡ with_counts renderer (one_more new.name (counts_of renderer old.renderers)) old.renderers
   pub counts : ChangesCount (λ (count : ℕ). count + 1) renderer new.name old.renderers now.renderers
+  pub owner : new.entry.owner.0 ≡ renderer
+  pub lists : Lists renderer (length old.registry.names) (lacks new.entry.status) old.transits now.transits
   pub rest : now ≡ record old {
     registry = pushed old.registry new.name new.entry;
     shares = now.shares;
@@ -51,6 +55,7 @@ pub record Grows (new : NewBlob) (renderer : ℕ) (old now : Parts) : Type 0 whe
     held = old.held + sum_by piece_weight new.items;
     weight = old.weight + new.row.weight;
     renderers = now.renderers;
+    transits = now.transits;
   }
 
 -- its items are of pieces and of data handles that no item was of, and its pieces have their homes

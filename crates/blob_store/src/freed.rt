@@ -1,14 +1,16 @@
 //! What goes with the items that nothing views any more.
-ghost use Rattle.std.specs.Prelude.{◌≡◌, ◌+◌, ◌-◌, ◌≤◌, List, fold, sum_by};
+ghost use Rattle.std.specs.Prelude.{◌≡◌, ◌+◌, ◌-◌, ◌≤◌, ◌&&◌, List, fold, is_some, sum_by};
 ghost use Rattle.std.specs.Option.{option_map_or};
+ghost use Rattle.blob_store.specs.Closing.{LetsGo};
 ghost use Rattle.data_handles.specs.Boxes.{of_table};
+ghost use Rattle.data_handles.specs.Table.{is_claimed_at, object_at};
 ghost use Rattle.page_disk.specs.declared.change.Change.{Change};
 ghost use Rattle.page_files.specs.Files.{Agrees};
 ghost use Rattle.store_laws.specs.Releasing.{released_by, AreReleasable};
 ghost use Rattle.store_laws.specs.LetGo.{left_by, let_go_by};
 ghost use Rattle.store_laws.specs.Weights.{memory_weight, piece_weight, reserved_weight};
 
-use data_handles::{Boxed, DataHandle, HandleTable};
+use data_handles::{Boxed, DataHandle, HandleTable, SlotFault};
 use item_shares::Item;
 use page_files::PageFiles;
 use quota_queue::Quota;
@@ -116,6 +118,26 @@ pub fn release(handles: &mut HandleTable, freed: &[Item])
     for item in freed {
         if let Item::Range { slot, .. } = item {
             handles.release(*slot);
+        }
+    }
+}
+
+// Whether a slot was claimed and holds its object still.
+fn holds_claimed(handles: &HandleTable, k: u32) -> bool
+    ensures { result ≡ (is_claimed_at (of_table ⟦<Boxed as DataHandle>⟧.seen handles.now) k
+        && is_some (object_at (of_table ⟦<Boxed as DataHandle>⟧.seen handles.now) k)) }
+{
+    matches!(handles.size_of(k), Err(SlotFault::Claimed)) && handles.held(k)
+}
+
+/// Each object whose slot was claimed is dropped.
+pub fn release_claimed(handles: &mut HandleTable)
+    ensures { LetsGo (of_table ⟦<Boxed as DataHandle>⟧.seen handles.old)
+        (of_table ⟦<Boxed as DataHandle>⟧.seen handles.new) }
+{
+    for k in 0..handles.len() {
+        if holds_claimed(handles, k) {
+            handles.release(k);
         }
     }
 }

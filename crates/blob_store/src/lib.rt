@@ -12,5 +12,6 @@ pub mod readers;
 pub mod row;
 mod settle;
 pub mod store;
+mod transits;
 
 pub use store::BlobStore;

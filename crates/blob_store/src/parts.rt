@@ -2,6 +2,7 @@ ghost use Rattle.std.specs.Prelude.{IfOk};
 
 use crate::readers::Readers;
 use crate::row::Row;
+use crate::transits::Transits;
 use blob_registry::Registry;
 use blob_words::{ItemList, Limits, NoMemory, Version};
 use file_table::FileTable;
@@ -45,6 +46,8 @@ pub struct Parts {
     pub urls: UrlStore,
     pub renderers: Renderers,
     pub readers: Readers,
+    /// The build numbers of blobs whose bytes or room were to come, by their builders.
+    pub transits: Transits,
 }
 
 impl Parts {
@@ -83,6 +86,7 @@ impl Parts {
             urls,
             renderers,
             readers: Readers::new(alloc),
+            transits: Transits::new(alloc),
         })
     }
 

@@ -1,12 +1,19 @@
 //! The store as its users see it.
-ghost use Rattle.std.specs.Prelude.{◌≡◌, IfOk, is_some};
+ghost use Rattle.std.specs.Prelude.{◌≡◌, ◌≤◌, true, None, IfOk, IfSome, is_some};
 ghost use Rattle.std.specs.Option.{option_map};
 ghost use Rattle.blob_store.specs.Begins.{Begins};
+ghost use Rattle.blob_store.specs.Closing.{LetsGo};
 ghost use Rattle.blob_store.specs.New.{IsNew};
 ghost use Rattle.blob_store.specs.Readers.{reader_at};
+ghost use Rattle.data_handles.specs.Boxes.{of_table};
+ghost use Rattle.page_files.specs.Files.{all_asked, Agrees, Closes};
 
+use crate::freed::release_claimed;
 use crate::parts::Parts;
 use blob_words::{JobNo, Limits, NoMemory, ReaderId, Version};
+use data_handles::{Boxed, DataHandle, HandleTable};
+use page_disk::PageDisk;
+use page_files::Closed;
 use std::alloc::Global;
 use std::marker::Model;
 
@@ -51,5 +58,28 @@ impl BlobStore {
         ensures { result ≡ is_some (reader_at number.0 self.now.readers) }
     {
         self.parts.readers.find(number).is_some()
+    }
+
+    /// Asks once for the removal of each page file not asked for before, by rising number, and
+    /// drops the object in each data handle's slot that was claimed. The store is spent then.
+    pub fn close<D: PageDisk>(&mut self, disk: &mut D, handles: &mut HandleTable) -> Closed
+        requires closed { D.writing disk.old ≡ None }
+        requires agrees { IfSome (D.changes disk.old) (Agrees self.old.pages.pages) }
+        ensures closed { D.writing disk.new ≡ None }
+        ensures agrees { IfSome (D.changes disk.new) (Agrees self.new.pages.pages) }
+        ensures spent { self.new ≡ record self.old {
+          is_spent = true;
+          pages = record self.old.pages { pages = all_asked self.old.pages.pages };
+        } }
+        ensures once { Closes self.old.pages.pages (D.changes disk.old) (D.changes disk.new)
+            (D.faults disk.old) (D.faults disk.new) result }
+        ensures objects { LetsGo (of_table ⟦<Boxed as DataHandle>⟧.seen handles.old)
+            (of_table ⟦<Boxed as DataHandle>⟧.seen handles.new) }
+        ensures later { D.faults disk.old ≤ D.faults disk.new }
+        ensures meter { D.meter disk.new ≡ D.meter disk.old }
+    {
+        self.parts.is_spent = true;
+        release_claimed(handles);
+        self.parts.pages.close(disk)
     }
 }

@@ -1,3 +1,4 @@
 mod Names
 pub mod NameBytes
 pub mod Keyed
+pub mod Ranges

@@ -1,4 +1,4 @@
-pub mod Latest
+pub mod Arrivals
 pub mod RunCells
 pub mod PieceNumbers
 pub mod Living
@@ -10,3 +10,6 @@ pub mod Using
 pub mod Forms
 pub mod Planning
 pub mod Slots
+pub mod FirstPlaces
+pub mod Sending
+pub mod Rooms

@@ -1,5 +1,5 @@
 -- What is kept of a history, and the notions of it that are looked up in what is kept. Own.
-use Rattle.std.specs.Prelude.{ℕ, ◌==◌, ◌||◌, ◌&&◌, Bool, false, List, [], Option, find, reverse, map, filter, bytes_eq, nat_lt, is_some, option_and_then}
+use Rattle.std.specs.Prelude.{ℕ, ◌==◌, ◌||◌, ◌&&◌, Bool, false, List, [], Option, find, reverse, map, filter, bytes_eq, nat_lt, is_some, option_and_then, unwrap_or}
 use Rattle.std.specs.Map.{lookup}
 use Rattle.std.specs.Ordering.{nat_cmp}
 use Rattle.std.specs.BTreeMap.{is_at}
@@ -29,21 +29,20 @@ ended_in endings name = lookup (is_at (nat_cmp name)) endings
 abbrev pub was_granted_in : List ℕ → ℕ → Bool
 was_granted_in granted name = list_any (λ (one : ℕ). one == name) granted
 
--- how often a renderer holds a blob, as it was last set
-pub record Hold : Type 0 where
-  pub holder : ℕ
-  pub blob : ℕ
-  pub count : ℕ
+-- what the renderer holds, and how often
+abbrev pub held_in : List (ℕ × List (ℕ × ℕ)) → ℕ → List (ℕ × ℕ)
+held_in holds holder = unwrap_or (lookup (is_at (nat_cmp holder)) holds) []
 
-abbrev pub is_hold : ℕ → ℕ → Hold → Bool
-is_hold holder name hold = hold.holder == holder && hold.blob == name
+-- how often the blob is held
+abbrev pub count_of : List (ℕ × ℕ) → ℕ → ℕ
+count_of held name = unwrap_or (lookup (is_at (nat_cmp name)) held) 0
 
--- how many handles on the blob the renderer has: what was set last
-abbrev pub count_in : List Hold → ℕ → ℕ → ℕ
-count_in holds holder name = option_map_or (λ (hold : Hold). hold.count) (find (is_hold holder name) (reverse holds)) 0
+-- how many handles on the blob the renderer has
+abbrev pub count_in : List (ℕ × List (ℕ × ℕ)) → ℕ → ℕ → ℕ
+count_in holds holder name = count_of (held_in holds holder) name
 
 -- whether the renderer holds the blob
-abbrev pub holds_one : List Hold → ℕ → Renderer → Bool
+abbrev pub holds_one : List (ℕ × List (ℕ × ℕ)) → ℕ → Renderer → Bool
 holds_one holds name renderer = nat_lt 0 (count_in holds renderer.number name)
 
 -- what a line said of a file: its state, or that it is gone

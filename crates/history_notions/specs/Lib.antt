@@ -12,3 +12,4 @@ pub mod Missing
 pub mod Uses
 pub mod Planned
 pub mod Slots
+pub mod Firsts

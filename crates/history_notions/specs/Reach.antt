@@ -24,6 +24,14 @@ has_of piece source from len = false
 abbrev pub has_run : Piece → Run → Bool
 has_run piece run = has_of piece run.source run.from run.len
 
+-- whether the run has own bytes of the blob of this name
+abbrev pub sends_of : ℕ → Source → Bool
+sends_of name (kinds.Sent blob) = blob == name
+sends_of name source = false
+
+abbrev pub is_sent : ℕ → Run → Bool
+is_sent name run = sends_of name run.source
+
 -- whether the run has a byte of the data handle
 abbrev pub lends_of : ℕ → Source → ℕ → Bool
 lends_of slot (kinds.Lent k) len = (k == slot) && nat_lt 0 len

@@ -199,7 +199,7 @@ pub fn plan_told(answer: &Answer) -> Option<Plan>
 }
 
 /// The content type that is kept.
-fn kept_kind(alloc: Global, kind: &[u8]) -> Result<Octets, NoMemory>
+pub fn kept_kind(alloc: Global, kind: &[u8]) -> Result<Octets, NoMemory>
     ensures { IfOk result (λ kept. kept ≡ kept_type kind.now) }
 {
     let mut kept = Octets::from_slice(alloc, kind)?;

@@ -1,6 +1,6 @@
 //! The refusals of the lines that build.
 ghost use Rattle.std.specs.Prelude.{◌≡◌, ℕ, ◌+◌, ◌++◌, List, length, nat_lt, sum_by, IfOk};
-ghost use Rattle.blob_words.specs.declared.bounds.TheConstants.{MOST_PIECES};
+ghost use Rattle.blob_words.specs.declared.bounds.TheConstants.{MOST_PIECES, MOST_WEIGHT};
 ghost use Rattle.session_script.specs.declared.event.Event.TheVariants as events;
 ghost use Rattle.blob_model.specs.Session.{Session, page_limit};
 ghost use Rattle.blob_model.specs.History.{History};
@@ -16,21 +16,13 @@ ghost use Rattle.history_notions.specs.Follows.{Follows};
 use crate::builds::{Build, parts_weight, slice_parts};
 use crate::construct::piece_count;
 use crate::contents::Contents;
-use crate::parts::{add, claims};
+use crate::parts::{add, claims, own_bytes};
 use crate::settle::has;
 use answer_text::Refusal;
+use blob_words::bounds::{MOST_BLOBS, MOST_PIECES, MOST_SEGMENTS, MOST_WEIGHT};
 use blob_words::{BlobName, Counted, ItemList, NoMemory, Plan, RendererId};
 use session_script::{Part, Parts};
 use std::alloc::Global;
-
-/// The most blobs of a session.
-const MOST_BLOBS: usize = 65_536;
-
-/// The most pieces of a session.
-const MOST_PIECES: u128 = 65_536;
-
-/// The most views of a session.
-const MOST_VIEWS: u128 = 4_194_304;
 
 /// Whether the plan is that there are too many segments.
 fn is_many_segments(plan: Plan) -> bool
@@ -125,6 +117,10 @@ impl Contents {
         ensures { IfOk result (λ many. (s : Session) (h : History) → Follows s h self.now
             → many ≡ is_many_segments (plan_for s h parts.now)) }
     {
+        // What is reached is asked for only where the own bytes cut into so many.
+        if own_bytes(parts).div_ceil(u128::from(self.limits.segment)) <= MOST_SEGMENTS as u128 {
+            return Ok(false);
+        }
         let plan = self.plan_for(parts)?;
         Ok(is_many_segments(plan))
     }
@@ -137,7 +133,7 @@ impl Contents {
     {
         let more = piece_count(self.alloc, self.limits.page, parts)?;
         let total = add(self.piece_total() as u128, more)?;
-        Ok(total > MOST_PIECES)
+        Ok(total > MOST_PIECES as u128)
     }
 
     // The weights of the parts.
@@ -151,13 +147,13 @@ impl Contents {
     // Whether there would be too many views.
     fn has_many_views(&self, parts: &[Part]) -> Result<bool, NoMemory>
         ensures { IfOk result (λ many. (s : Session) (h : History) → Follows s h self.now
-            → many ≡ nat_lt 4194304 (weight_total s h
+            → many ≡ nat_lt MOST_WEIGHT (weight_total s h
             + parts_weight (page_limit s) (builds (page_limit s) h) parts.now)) }
     {
         let more = self.parts_weight(parts);
         let before = self.weight_total()?;
         let total = add(before, more)?;
-        Ok(total > MOST_VIEWS)
+        Ok(total > MOST_WEIGHT as u128)
     }
 
     // Of a blob that would be one too many, or have too many segments, pieces or views.

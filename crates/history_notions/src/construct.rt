@@ -18,12 +18,10 @@ use crate::parts::{add, embedded_len, own_bytes, own_lengths, parts_length, sour
 use crate::recorded::recorded;
 use crate::standing::{Endings, Granted};
 use crate::waits::is_waiting;
+use blob_words::bounds::{MOST_PIECES, MOST_SEGMENTS};
 use blob_words::{BlobName, Counted, Limits, NoMemory, Plan, Status};
 use session_script::Part;
 use std::alloc::Global;
-
-/// The most pieces of a session and segments of a build.
-const MOST: u128 = 65_536;
 
 /// The greatest size of a blob.
 const MOST_BYTES: u128 = 1 << 62;
@@ -46,7 +44,7 @@ pub struct Room {
 fn file_plan(count: u128) -> Plan
     ensures { result ≡ file_plan count }
 {
-    if count > MOST {
+    if count > MOST_PIECES as u128 {
         Plan::TooMany(Counted::Pieces)
     } else {
         Plan::File(count as u32)
@@ -57,7 +55,7 @@ fn file_plan(count: u128) -> Plan
 fn shared_plan(count: u128) -> Plan
     ensures { result ≡ shared_plan count }
 {
-    if count > MOST {
+    if count > MOST_SEGMENTS as u128 {
         Plan::TooMany(Counted::Segments)
     } else {
         Plan::Shared(count as u32)
@@ -290,6 +288,19 @@ impl Contents {
         is_some_unrecorded(self, parts)
     }
 
+    // Whether there is no room for the own bytes. There is where memory could ever hold them: what
+    // is reached is asked for only where it couldn't.
+    fn lacks_room(&self, parts: &[Part]) -> Result<bool, NoMemory>
+        ensures { IfOk result (λ lacks. (s : Session) (h : History) → Follows s h self.now
+            → lacks ≡ is_out_of_memory (plan_for s h parts.now)) }
+    {
+        if own_bytes(parts) <= u128::from(self.limits.memory) {
+            return Ok(false);
+        }
+        let plan = self.plan_for(parts)?;
+        Ok(is_out_of_memory(plan))
+    }
+
     /// The status of a blob that breaks at its line, and none where it doesn't.
     pub fn line_status(
         &self,
@@ -310,8 +321,8 @@ impl Contents {
         if self.lacks_file(parts) {
             return Ok(Some(Status::ReferencedFileUnavailable));
         }
-        let plan = self.plan_for(parts)?;
-        if is_out_of_memory(plan) {
+        let lacks_room = self.lacks_room(parts)?;
+        if lacks_room {
             return Ok(Some(Status::OutOfMemory));
         }
         Ok(None)

@@ -11,7 +11,8 @@ ghost use Rattle.blob_model.specs.Live.{is_rooted};
 ghost use Rattle.history_notions.specs.Follows.{Follows};
 ghost use Rattle.history_notions.specs.Silent.{outside_of};
 
-use crate::builds::{Build, made_by};
+use crate::blobs::Blobs;
+use crate::builds::made_by;
 use crate::kept::Kept;
 use crate::pieces::{Piece, put_pieces};
 use crate::readers::{self, OpenReader, is_read};
@@ -29,7 +30,7 @@ pub struct Contents {
     pub version: Version,
     pub sizes: Octets64,
     pub kept: Kept,
-    pub builds: ItemList<Build>,
+    pub builds: Blobs,
     pub pieces: ItemList<Piece>,
     pub readers: Vec<OpenReader>,
 }
@@ -45,7 +46,7 @@ impl Contents {
             version,
             sizes,
             kept: Kept::new(alloc),
-            builds: ItemList::new(alloc),
+            builds: Blobs::new(alloc),
             pieces: ItemList::new(alloc),
             readers: Vec::new(alloc),
         }

@@ -19,6 +19,7 @@ ghost use Rattle.history_notions.specs.Uses.{use_cell, use_cells, chunk_in, use_
 ghost use Rattle.history_notions.specs.Follows.{Follows};
 ghost use Rattle.history_notions.specs.FollowsCourse.{FollowsCourse};
 
+use crate::blobs::Blobs;
 use crate::builds::{Build, build_in};
 use crate::contents::Contents;
 use crate::pages::Page;
@@ -58,7 +59,7 @@ pub fn piece_with(list: &[Piece], blob: BlobName, index: u128) -> Option<&Piece>
 /// The own byte of a blob at an index uses its piece, where that is in memory.
 fn use_index(
     pages: &[Page],
-    builds: &[Build],
+    builds: &Blobs,
     list: &[Piece],
     blob: BlobName,
     index: u128,
@@ -78,7 +79,7 @@ fn use_index(
 /// The own bytes of a blob from an index on use their pieces.
 fn use_own(
     pages: &[Page],
-    builds: &[Build],
+    builds: &Blobs,
     list: &[Piece],
     blob: BlobName,
     from: u128,
@@ -98,7 +99,7 @@ fn use_own(
 /// The cells of a run use their pieces.
 fn use_run(
     pages: &[Page],
-    builds: &[Build],
+    builds: &Blobs,
     list: &[Piece],
     run: &Run,
     uses: &mut Vec<u32>,
@@ -116,7 +117,7 @@ fn use_run(
 /// The cells of runs use their pieces, one after the other.
 fn use_runs(
     pages: &[Page],
-    builds: &[Build],
+    builds: &Blobs,
     list: &[Piece],
     runs: &[Run],
     uses: &mut Vec<u32>,
@@ -190,7 +191,7 @@ impl Contents {
         };
         let runs = self.chunk(reader)?;
         let pages = self.kept.pages.as_slice();
-        let blobs = self.builds.as_slice();
+        let blobs = &self.builds;
         let list = self.pieces.as_slice();
         use_runs(pages, blobs, list, runs.as_slice(), uses)?;
         Ok(())

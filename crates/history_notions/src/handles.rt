@@ -1,74 +1,78 @@
 //! Blob handles: how often a renderer holds a blob.
-ghost use Rattle.std.specs.Prelude.{◌≡◌, ℕ, ◌==◌, ◌++◌, ◌∷◌, [], ◌^◌, ◌<◌, find, reverse, nat_lt, not, filter, OnOk};
-ghost use Rattle.std.specs.Option.{option_copied};
+ghost use Rattle.std.specs.Prelude.{◌≡◌, ℕ, ◌==◌, [], ◌&&◌, nat_lt, if◌then◌else◌, OnOk};
 ghost use Rattle.blob_model.specs.Handles.{count_after};
-ghost use Rattle.history_notions.specs.Kept.{count_in, is_hold};
+ghost use Rattle.history_notions.specs.Kept.{held_in, count_of, count_in};
 
 use crate::pages::one_more;
 use blob_words::{BlobName, NoMemory};
 use session_script::Event;
 use std::alloc::Global;
+use std::collections::BTreeMap;
 use std::marker::Model;
 
-/// How often a renderer holds a blob, as it was last set.
-#[derive(Clone, Copy, Debug)]
-pub struct Hold {
-    holder: u32,
-    blob: BlobName,
-    count: u64,
+/// How often one renderer holds each blob.
+#[derive(Debug, Drop)]
+struct Held {
+    // Names come from outside: an ordered map, so that no choice of them makes a look-up slow.
+    counts: BTreeMap<u128, u64>,
 }
 
-impl Model for Hold {
-    ghost use Rattle.history_notions.specs.Kept as kept;
+impl Model for Held {
+    ghost use Rattle.std.specs.Prelude.{ℕ, List};
 
-    ghost Value = { kept.Hold };
+    ghost Value = { List (ℕ × ℕ) };
 
-    ghost view = { λ one. record { holder = one.holder; blob = one.blob; count = one.count } };
-
-    ghost inverse = { λ one. record { holder = one.holder; blob = one.blob; count = one.count } };
+    ghost view = { λ held. held.counts.entries };
 }
 
-/// The handles of the renderers.
+/// The handles of the renderers: what each holds.
 #[derive(Debug, Drop)]
 pub struct Holds {
-    holds: Vec<Hold>,
+    alloc: Global,
+    // Numbers come from outside too.
+    renderers: BTreeMap<u32, Held>,
 }
 
 impl Model for Holds {
-    ghost use Rattle.std.specs.Prelude.{List};
-    ghost use Rattle.history_notions.specs.Kept.{Hold};
+    ghost use Rattle.std.specs.Prelude.{ℕ, List};
 
-    ghost Value = { List Hold };
+    ghost Value = { List (ℕ × List (ℕ × ℕ)) };
 
-    ghost view = { λ holds. holds.holds.items };
+    ghost view = { λ holds. holds.renderers.entries };
 }
 
-fn is_hold(holder: u32, blob: BlobName, hold: &Hold) -> bool
-    ensures { result ≡ is_hold holder blob hold.now }
-{
-    hold.holder == holder && hold.blob == blob
-}
-
-fn last_hold(holds: &[Hold], holder: u32, blob: BlobName) -> Option<&Hold>
-    ensures { option_copied result ≡ find (is_hold holder blob) (reverse holds.now) }
-{
-    holds.iter().rev().find(|hold| is_hold(holder, blob, hold))
-}
-
-fn count_in(holds: &[Hold], holder: u32, blob: BlobName) -> u64
-    ensures { result ≡ count_in holds.now holder blob }
-{
-    match last_hold(holds, holder, blob) {
-        Some(hold) => hold.count,
-        None => 0,
+impl Held {
+    // No handle.
+    fn new(alloc: Global) -> Held
+        ensures { result ≡ [] }
+    {
+        Held {
+            counts: BTreeMap::new(alloc),
+        }
     }
-}
 
-fn without_holder(holds: &mut Vec<Hold>, holder: u32)
-    ensures { holds.new.items
-        ≡ filter (λ hold. not (hold.holder == holder)) holds.old.items }
-{
-    holds.retain(|hold| hold.holder != holder);
+    // How many handles on the blob there are.
+    fn count(&self, blob: BlobName) -> u64
+        ensures { result ≡ count_of self.now blob }
+    {
+        match self.counts.get(&blob.number()) {
+            Some(count) => *count,
+            None => 0,
+        }
+    }
+
+    // There are so many handles on the blob from now on.
+    fn set(&mut self, blob: BlobName, count: u64) -> Result<(), NoMemory>
+        ensures { OnOk result ((name : ℕ) → count_of self.new name
+            ≡ (if blob == name then count else count_of self.old name)) }
+    {
+        if count == 0 {
+            let _ = self.counts.remove(&blob.number());
+            return Ok(());
+        }
+        let _ = self.counts.insert(blob.number(), count)?;
+        Ok(())
+    }
 }
 
 impl Holds {
@@ -77,7 +81,8 @@ impl Holds {
         ensures { result ≡ [] }
     {
         Holds {
-            holds: Vec::new(alloc),
+            alloc,
+            renderers: BTreeMap::new(alloc),
         }
     }
 
@@ -85,7 +90,10 @@ impl Holds {
     pub fn count(&self, holder: u32, blob: BlobName) -> u64
         ensures { result ≡ count_in self.now holder blob }
     {
-        count_in(&self.holds, holder, blob)
+        match self.renderers.get(&holder) {
+            Some(held) => held.count(blob),
+            None => 0,
+        }
     }
 
     /// Whether the renderer has a handle on the blob.
@@ -95,16 +103,45 @@ impl Holds {
         self.count(holder, blob) > 0
     }
 
-    fn set(&mut self, holder: u32, blob: BlobName, count: u64) -> Result<(), NoMemory>
-        ensures { OnOk result (self.new
-            ≡ self.old ++ (record { holder = holder; blob = blob; count = count }) ∷ []) }
+    // Takes what the renderer holds.
+    fn take(&mut self, holder: u32) -> Held
+        ensures taken { result ≡ held_in self.old holder }
+        ensures left { (other : ℕ) → held_in self.new other
+            ≡ (if holder == other then [] else held_in self.old other) }
     {
-        self.holds.push(Hold {
-            holder,
-            blob,
-            count,
-        })?;
+        match self.renderers.remove(&holder) {
+            Some(held) => held,
+            None => Held::new(self.alloc),
+        }
+    }
+
+    // The renderer holds this from now on.
+    fn put(&mut self, holder: u32, held: Held) -> Result<(), NoMemory>
+        ensures { OnOk result ((other : ℕ) → held_in self.new other
+            ≡ (if holder == other then held else held_in self.old other)) }
+    {
+        let _ = self.renderers.insert(holder, held)?;
         Ok(())
+    }
+
+    // The renderer has so many handles on the blob from now on.
+    fn set(&mut self, holder: u32, blob: BlobName, count: u64) -> Result<(), NoMemory>
+        ensures { OnOk result ((other name : ℕ) → count_in self.new other name
+            ≡ (if holder == other && blob == name then count
+            else count_in self.old other name)) }
+    {
+        let mut held = self.take(holder);
+        held.set(blob, count)?;
+        self.put(holder, held)?;
+        Ok(())
+    }
+
+    // A renderer that died holds nothing.
+    fn clear(&mut self, holder: u32)
+        ensures { (other name : ℕ) → count_in self.new other name
+            ≡ (if holder == other then 0 else count_in self.old other name) }
+    {
+        let _ = self.take(holder);
     }
 
     /// The builder holds its blob once, a `pass` line adds one, a `drop` line takes one, and a dead
@@ -125,11 +162,11 @@ impl Holds {
                 self.set(r.0, *b, count.saturating_sub(1))
             }
             Event::Die { r } => {
-                without_holder(&mut self.holds, r.0);
+                self.clear(r.0);
                 Ok(())
             }
             Event::Finish => {
-                self.holds.clear();
+                self.renderers.clear();
                 Ok(())
             }
             _ => Ok(()),

@@ -1,6 +1,7 @@
 //! Judges transcripts by the model: each notion of it as a function, on plain lists.
 #![tactic(auto)]
 
+pub mod blobs;
 pub mod builds;
 pub mod claims;
 pub mod construct;
@@ -22,6 +23,7 @@ pub mod refusals;
 pub mod renderers;
 pub mod run;
 pub mod runs;
+pub mod senders;
 pub mod settle;
 pub mod standing;
 pub mod tally;

@@ -18,7 +18,7 @@ ghost use Rattle.blob_model.specs.Jobs.{is_in_job};
 ghost use Rattle.history_notions.specs.Kept.{is_dead_in, holds_one, is_open_to};
 ghost use Rattle.history_notions.specs.Keeps.{Keeps};
 
-use crate::builds::{Build, build_in, size_in};
+use crate::builds::{Build, size_in};
 use crate::contents::Contents;
 use crate::entries::{Entry, before_fragment};
 use crate::handles::Holds;
@@ -169,7 +169,7 @@ impl Contents {
         ensures { (s : Session) (h : History) → Follows s h self.now
             → option_copied result ≡ build_in (builds (page_limit s) h) name }
     {
-        build_in(self.builds.as_slice(), name)
+        self.builds.find(name)
     }
 
     /// Whether a blob of this name was built.

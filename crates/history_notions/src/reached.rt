@@ -1,6 +1,8 @@
 //! Which pieces are reached.
-ghost use Rattle.std.specs.Prelude.{◌≡◌, ℕ, ◌+◌, ◌<◌, ◌≤◌, ◌^◌, filter, map, IfOk};
+ghost use Rattle.std.specs.Prelude.{◌≡◌, ℕ, ◌+◌, ◌<◌, ◌≤◌, ◌^◌, filter, map, false, is_some, IfOk};
 ghost use Rattle.std.specs.List.{list_any};
+ghost use Rattle.std.specs.Ordering.{nat_cmp};
+ghost use Rattle.std.specs.BTreeMap as tree;
 ghost use Rattle.blob_model.specs.Session.{Session, page_limit};
 ghost use Rattle.blob_model.specs.History.{History};
 ghost use Rattle.blob_model.specs.Reached.{live_cells, reached};
@@ -8,13 +10,16 @@ ghost use Rattle.history_notions.specs.Follows.{Follows};
 ghost use Rattle.history_notions.specs.Chosen.{items_at};
 ghost use Rattle.history_notions.specs.Reach.{do_meet, has_run, has_cell, is_whole, has_at, has_grant, is_reached_in};
 
-use crate::builds::{Build, build_in};
+use crate::blobs::Blobs;
+use crate::builds::Build;
 use crate::contents::Contents;
 use crate::pieces::Piece;
 use crate::run::{Run, Source};
+use crate::senders::senders;
 use crate::standing::{Endings, Granted, is_granted};
 use blob_words::{ItemList, NoMemory};
 use std::alloc::Global;
+use std::collections::BTreeMap;
 
 /// Whether two ranges, each told by its first number and by how many it has, share a number.
 fn do_meet(from: u128, len: u64, start: u64, count: u64) -> bool
@@ -77,10 +82,10 @@ fn is_whole(builds: &[Build], endings: &Endings, place: usize) -> bool
 }
 
 /// Whether the blob of the piece was granted.
-fn has_grant(granted: &Granted, builds: &[Build], piece: &Piece) -> bool
+fn has_grant(granted: &Granted, builds: &Blobs, piece: &Piece) -> bool
     ensures { result ≡ has_grant granted.now builds.now piece.now }
 {
-    match build_in(builds, piece.blob) {
+    match builds.find(piece.blob) {
         Some(build) => is_granted(granted, build.name, build.plan),
         None => false,
     }
@@ -105,20 +110,51 @@ fn whole_places(
     Ok(found)
 }
 
+/// Whether a blob at one of the places has a byte of the piece. That at the index is asked first.
+fn is_held_from(builds: &[Build], places: &[usize], index: usize, piece: &Piece) -> bool
+    ensures { result ≡ list_any (has_at builds.now piece.now) places.now }
+{
+    if index < places.len() && has_at(builds, piece, places[index]) {
+        return true;
+    }
+    has_some(builds, places, piece)
+}
+
+/// Whether a blob at one of the places has a byte of the piece, where these names are among
+/// others those of the blobs whose own bytes are there.
+fn is_held_by(
+    names: &BTreeMap<u128, usize>,
+    builds: &[Build],
+    places: &[usize],
+    piece: &Piece,
+) -> bool
+    requires { is_some (tree.get nat_cmp names.now piece.now.blob) ≡ false
+        → list_any (has_at builds.now piece.now) places.now ≡ false }
+    ensures { result ≡ list_any (has_at builds.now piece.now) places.now }
+{
+    match names.get(&piece.blob.number()) {
+        Some(index) => is_held_from(builds, places, *index, piece),
+        None => false,
+    }
+}
+
 /// Of these pieces those that are reached from the blobs at these places.
 fn reached_from(
     alloc: Global,
     granted: &Granted,
-    builds: &[Build],
+    builds: &Blobs,
     places: &[usize],
     pieces: &[Piece],
 ) -> Result<ItemList<Piece>, NoMemory>
     ensures { IfOk result (λ found. found
         ≡ filter (is_reached_in granted.now builds.now places.now) pieces.now) }
 {
+    let names = senders(alloc, builds.as_slice(), places)?;
     let mut found = ItemList::new(alloc);
     for piece in pieces {
-        if has_grant(granted, builds, piece) && has_some(builds, places, piece) {
+        if is_held_by(&names, builds.as_slice(), places, piece)
+            && has_grant(granted, builds, piece)
+        {
             found.push(*piece)?;
         }
     }
@@ -146,7 +182,7 @@ impl Contents {
     {
         let places = self.live_cells()?;
         let granted = &self.kept.granted;
-        let builds = self.builds.as_slice();
+        let builds = &self.builds;
         let pieces = self.pieces.as_slice();
         let found = reached_from(self.alloc, granted, builds, places.as_slice(), pieces)?;
         Ok(found)

@@ -20,21 +20,10 @@ use crate::recorded::{is_known, last_stamp};
 use crate::renderers::{is_spawned, origin_of};
 use crate::transport::spans;
 use answer_text::Refusal;
+use blob_words::bounds::{MOST_FILES, MOST_READERS, MOST_RENDERERS, MOST_URLS};
 use blob_words::{
     BlobName, Counted, FileName, JobNo, NoMemory, Octets, ReaderId, RendererId, UrlText,
 };
-
-/// How many renderers a session may have.
-const MOST_RENDERERS: usize = 1_024;
-
-/// How many readers may be open.
-const MOST_READERS: usize = 4_096;
-
-/// How many URL entries may stand.
-const MOST_URLS: usize = 16_384;
-
-/// How many files a session may name.
-const MOST_FILES: usize = 16_384;
 
 impl Kept {
     /// Of a `spawn` line.

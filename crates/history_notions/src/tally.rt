@@ -10,7 +10,7 @@ ghost use Rattle.history_notions.specs.Follows.{Follows};
 ghost use Rattle.history_notions.specs.Chosen.{items_at};
 ghost use Rattle.history_notions.specs.Placed.{place_at, memory_pieces, reserved_pieces, page_pieces, holds_some};
 
-use crate::builds::{Build, build_in};
+use crate::blobs::Blobs;
 use crate::contents::Contents;
 use crate::pages::{Page, page_with};
 use crate::parts::{add, few, few_bytes};
@@ -20,10 +20,10 @@ use blob_words::{ItemList, NoMemory, Plan, Tally};
 use std::alloc::Global;
 
 /// Whether the piece, where no page file lists it, is reserved on the disk.
-fn is_planned(builds: &[Build], piece: &Piece) -> bool
+fn is_planned(builds: &Blobs, piece: &Piece) -> bool
     ensures { result ≡ is_reserved (unlisted_place (build_in builds.now piece.now.blob)) }
 {
-    match build_in(builds, piece.blob) {
+    match builds.find(piece.blob) {
         Some(build) => matches!(build.plan, Some(Plan::File(_))),
         None => false,
     }
@@ -31,7 +31,7 @@ fn is_planned(builds: &[Build], piece: &Piece) -> bool
 
 /// Whether the piece is in memory.
 #[tactic(auto, using(crate::proofs::Placing::unlisted_memory))]
-pub fn is_in_memory(pages: &[Page], builds: &[Build], piece: &Piece) -> bool
+pub fn is_in_memory(pages: &[Page], builds: &Blobs, piece: &Piece) -> bool
     ensures { result ≡ is_memory (place_at pages.now builds.now piece.now) }
 {
     match page_with(pages, piece.number) {
@@ -41,7 +41,7 @@ pub fn is_in_memory(pages: &[Page], builds: &[Build], piece: &Piece) -> bool
 }
 
 /// Whether the piece is reserved on the disk.
-fn is_reserved(pages: &[Page], builds: &[Build], piece: &Piece) -> bool
+fn is_reserved(pages: &[Page], builds: &Blobs, piece: &Piece) -> bool
     ensures { result ≡ is_reserved (place_at pages.now builds.now piece.now) }
 {
     match page_with(pages, piece.number) {
@@ -52,7 +52,7 @@ fn is_reserved(pages: &[Page], builds: &[Build], piece: &Piece) -> bool
 
 /// Whether the piece is in the page file.
 #[tactic(auto, using(crate::proofs::Placing::unlisted_page))]
-fn is_in_page(pages: &[Page], builds: &[Build], number: u32, piece: &Piece) -> bool
+fn is_in_page(pages: &[Page], builds: &Blobs, number: u32, piece: &Piece) -> bool
     ensures { result ≡ is_page number (place_at pages.now builds.now piece.now) }
 {
     match page_with(pages, piece.number) {
@@ -65,7 +65,7 @@ fn is_in_page(pages: &[Page], builds: &[Build], number: u32, piece: &Piece) -> b
 fn memory_pieces(
     alloc: Global,
     pages: &[Page],
-    builds: &[Build],
+    builds: &Blobs,
     list: &[Piece],
 ) -> Result<ItemList<Piece>, NoMemory>
     ensures { IfOk result (λ found. found ≡ memory_pieces pages.now builds.now list.now) }
@@ -83,7 +83,7 @@ fn memory_pieces(
 fn reserved_pieces(
     alloc: Global,
     pages: &[Page],
-    builds: &[Build],
+    builds: &Blobs,
     list: &[Piece],
 ) -> Result<ItemList<Piece>, NoMemory>
     ensures { IfOk result (λ found. found ≡ reserved_pieces pages.now builds.now list.now) }
@@ -101,7 +101,7 @@ fn reserved_pieces(
 fn page_pieces(
     alloc: Global,
     pages: &[Page],
-    builds: &[Build],
+    builds: &Blobs,
     number: u32,
     list: &[Piece],
 ) -> Result<ItemList<Piece>, NoMemory>
@@ -120,7 +120,7 @@ fn page_pieces(
 fn holds_some(
     alloc: Global,
     pages: &[Page],
-    builds: &[Build],
+    builds: &Blobs,
     list: &[Piece],
     page: &Page,
 ) -> Result<bool, NoMemory>
@@ -134,7 +134,7 @@ fn holds_some(
 fn held_files(
     alloc: Global,
     pages: &[Page],
-    builds: &[Build],
+    builds: &Blobs,
     list: &[Piece],
 ) -> Result<ItemList<usize>, NoMemory>
     ensures { IfOk result (λ places. items_at pages.now places
@@ -154,7 +154,7 @@ fn held_files(
 fn held_count(
     alloc: Global,
     pages: &[Page],
-    builds: &[Build],
+    builds: &Blobs,
     list: &[Piece],
 ) -> Result<usize, NoMemory>
     ensures { IfOk result (λ count. count
@@ -174,7 +174,7 @@ fn held_count(
 fn held_bytes(
     alloc: Global,
     pages: &[Page],
-    builds: &[Build],
+    builds: &Blobs,
     all: &[Piece],
     list: &[Piece],
 ) -> Result<u128, NoMemory>
@@ -205,7 +205,7 @@ impl Contents {
             → found ≡ in_memory_of h (builds (page_limit s) h) list.now) }
     {
         let pages = self.kept.pages.as_slice();
-        let found = memory_pieces(self.alloc, pages, self.builds.as_slice(), list)?;
+        let found = memory_pieces(self.alloc, pages, &self.builds, list)?;
         Ok(found)
     }
 
@@ -215,7 +215,7 @@ impl Contents {
             → found ≡ reserved_of h (builds (page_limit s) h) list.now) }
     {
         let pages = self.kept.pages.as_slice();
-        let found = reserved_pieces(self.alloc, pages, self.builds.as_slice(), list)?;
+        let found = reserved_pieces(self.alloc, pages, &self.builds, list)?;
         Ok(found)
     }
 
@@ -225,7 +225,7 @@ impl Contents {
             → found ≡ in_page_of h (builds (page_limit s) h) page.now list.now) }
     {
         let pages = self.kept.pages.as_slice();
-        let found = page_pieces(self.alloc, pages, self.builds.as_slice(), page.number, list)?;
+        let found = page_pieces(self.alloc, pages, &self.builds, page.number, list)?;
         Ok(found)
     }
 
@@ -236,7 +236,7 @@ impl Contents {
             ≡ files_of h (builds (page_limit s) h) list.now) }
     {
         let pages = self.kept.pages.as_slice();
-        let places = held_files(self.alloc, pages, self.builds.as_slice(), list)?;
+        let places = held_files(self.alloc, pages, &self.builds, list)?;
         Ok(places)
     }
 
@@ -269,7 +269,7 @@ impl Contents {
             → count ≡ length (files_of h (builds (page_limit s) h) list.now)) }
     {
         let pages = self.kept.pages.as_slice();
-        let count = held_count(self.alloc, pages, self.builds.as_slice(), list)?;
+        let count = held_count(self.alloc, pages, &self.builds, list)?;
         Ok(count)
     }
 
@@ -280,7 +280,7 @@ impl Contents {
             (files_of h (builds (page_limit s) h) list.now)) }
     {
         let pages = self.kept.pages.as_slice();
-        let blobs = self.builds.as_slice();
+        let blobs = &self.builds;
         let all = self.pieces.as_slice();
         let bytes = held_bytes(self.alloc, pages, blobs, all, list)?;
         Ok(bytes)

@@ -24,7 +24,7 @@ fn is_shared(plan: Option<Plan>) -> bool
 pub fn is_waiting(endings: &Endings, granted: &Granted, build: &Build) -> bool
     ensures { result ≡ is_waiting_in endings.now granted.now build.now }
 {
-    endings.is_unfinished(build.name) && is_shared(build.plan) && !granted.has(build.name)
+    is_shared(build.plan) && endings.is_unfinished(build.name) && !granted.has(build.name)
 }
 
 fn waiting_places(

@@ -2,6 +2,7 @@
 ghost use Rattle.std.specs.Prelude.{◌≡◌, None};
 
 use blob_words::PageNo;
+use blob_words::bounds::LONGEST_APPEND;
 use case_lines::{number, short_number, show, show_read, word};
 use page_disk::{FolderDisk, PageDisk};
 use std::io;
@@ -11,7 +12,7 @@ fn put(disk: &mut FolderDisk<HostRuntime>, page: PageNo, bytes: &[u8]) -> &'stat
     requires closed { ⟦<FolderDisk<HostRuntime> as PageDisk>⟧.writing disk.old ≡ None }
     ensures closed { ⟦<FolderDisk<HostRuntime> as PageDisk>⟧.writing disk.new ≡ None }
 {
-    if bytes.is_empty() || bytes.len() > 65_536 {
+    if bytes.is_empty() || bytes.len() > LONGEST_APPEND {
         return "no such write";
     }
     if disk.begin(page, bytes.len() as u64).is_err() {

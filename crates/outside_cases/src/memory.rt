@@ -5,13 +5,11 @@ ghost use Rattle.std.specs.Option.{option_copied};
 ghost use Rattle.page_disk.specs.Changes.{last_put, put_by, removes, writes, HasRange};
 ghost use Rattle.page_disk.specs.Memory.{open_in};
 
+use blob_words::bounds::LONGEST_APPEND;
 use blob_words::{Failed, PageNo};
 use case_lines::{memory_disk, number, short_number, show, show_changes, show_read, word};
 use page_disk::{Change, MemoryDisk, PageDisk, PutFault};
 use std::io;
-
-// The most bytes that are appended at once.
-const MOST: usize = 65_536;
 
 // Whether a change is a write of the page, good or not.
 fn writes(change: &Change, page: u32) -> bool
@@ -92,7 +90,10 @@ fn put(disk: &mut MemoryDisk, page: u32, first: &[u8], second: &[u8]) -> &'stati
     requires closed { open_in disk.old ≡ None }
     ensures closed { open_in disk.new ≡ None }
 {
-    if first.is_empty() || first.len() > MOST || second.is_empty() || second.len() > MOST {
+    if first.is_empty() || first.len() > LONGEST_APPEND {
+        return "no such write";
+    }
+    if second.is_empty() || second.len() > LONGEST_APPEND {
         return "no such write";
     }
     if was_written(disk.changes(), page) {

@@ -33,10 +33,11 @@ struct Removed {
 
 // Stores two reserved pieces. What is not stored of the second is reserved no more.
 fn store_two<D: PageDisk>(
-    heap: Global,
     files: &mut PageFiles,
+    mut shares: Shares,
+    slots: (usize, usize),
     disk: &mut D,
-) -> Result<Stored, NoMemory>
+) -> Stored
     requires closed { D.writing disk.old ≡ None }
     requires agrees { IfSome (D.changes disk.old) (Agrees files.old.pages) }
     requires reserved { files.old.reserved ≡ 9 }
@@ -44,21 +45,19 @@ fn store_two<D: PageDisk>(
     ensures closed { D.writing disk.new ≡ None }
     ensures agrees { IfSome (D.changes disk.new) (Agrees files.new.pages) }
 {
-    let mut shares = Shares::new(heap)?;
-    let (one, two) = reserve_two(&mut shares, 8, 1)?;
-    let first = store(files, one, b"abcdefgh", &mut shares, disk);
-    let second = store(files, two, b"i", &mut shares, disk);
+    let first = store(files, slots.0, b"abcdefgh", &mut shares, disk);
+    let second = store(files, slots.1, b"i", &mut shares, disk);
     let standing = look(files);
     if second.is_err() {
         files.unreserve(1);
     }
-    Ok(Stored {
+    Stored {
         first,
         second,
         standing,
         shares,
-        slots: (one, two),
-    })
+        slots,
+    }
 }
 
 // Reaches the two pieces no more, and removes their pages.
@@ -87,7 +86,9 @@ fn row_stores<D: PageDisk>(heap: Global, disk: &mut D) -> Result<(Stored, Remove
     requires fresh { IfSome (D.changes disk.old) (λ changes. changes ≡ []) }
 {
     let mut files = reserved_files(heap, 9, 9, disk)?;
-    let stored = store_two(heap, &mut files, disk)?;
+    let mut shares = Shares::new(heap)?;
+    let slots = reserve_two(&mut shares, 8, 1)?;
+    let stored = store_two(&mut files, shares, slots, disk);
     let removed = remove_two(&mut files, disk);
     Ok((stored, removed))
 }

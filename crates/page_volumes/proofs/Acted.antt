@@ -1,16 +1,16 @@
 -- A call of the volume at a place, as a change of what it is seen as.
 use Rattle.std.proofs.Common.{◌≡◌, ℕ, zero, suc, ◌&&◌, Bool, true, false, not, List, [], ◌∷◌, ◌++◌, Some, None, Option, length, option_and_then, refl, sym, ap, ◌∙◌, subst, ⊎_elim, inl, inr}
-use Rattle.std.specs.Prelude.{if◌then◌else◌, slice_get, IfSome, IsSome, IsSomeAnd}
+use Rattle.std.specs.Prelude.{if◌then◌else◌, slice_get, IfSome, IsSomeAnd}
 use Rattle.std.specs.Option.{option_map, option_map_or}
 use Rattle.blob_source.specs.Faults.{Rose}
 use Rattle.page_disk.specs.declared.change.Change.TheVariants.{Torn}
 use Rattle.blob_words.specs.declared.number.PageNo.{PageNo}
 use Rattle.page_volumes.specs.declared.filed.Filed.{Filed}
-use Rattle.page_volumes.specs.Seen.{with_count, Fails, HasFile, Seen}
+use Rattle.page_volumes.specs.Seen.{with_count, Fails, Seen}
 use Rattle.page_volumes.specs.Seen as volume
-use Rattle.page_volumes.specs.Group.{changed_at, count_at, let_go, object_at, seen_by, settled, slot_count, swept, takes_writes, told_more, writer_of, writer_retired, Group, Slot, Stays, Sweeps}
-use Rattle.page_volumes.specs.Acts.{Acts, CanRemoveAt, FailsAt, SweepsAt}
-use Rattle.page_volumes.proofs.Writers.{changed_here, changed_or, length_changed, writer_changed, writer_there, writes_changed}
+use Rattle.page_volumes.specs.Group.{changed_at, count_at, let_go, object_at, seen_by, settled, slot_count, swept, takes_writes, told_more, writer_of, writer_retired, Group, Slot, Sweeps}
+use Rattle.page_volumes.specs.Acts.{Acts, FailsAt, SweepsAt}
+use Rattle.page_volumes.proofs.Writers.{changed_or, length_changed, writer_changed, writer_there, writes_changed}
 
 -- what is said of something holds of it in another form
 pub some_weaker : {X : Type 0} (P Q : X → Type 0) → ((x : X) → P x → Q x) → (found : Option X) → IsSomeAnd found P → IsSomeAnd found Q

@@ -1,11 +1,11 @@
 -- What a disk of pages promises of its calls, of those of a group.
-use Rattle.std.proofs.Common.{◌≡◌, ℕ, ◌+◌, ◌-◌, ◌^◌, ◌<◌, ◌≤◌, Bool, true, false, List, [], ◌∷◌, ◌++◌, Some, None, Option, arith, inl, inr, drop, length, take, option_and_then, refl, sym, ap, ◌∙◌, subst}
+use Rattle.std.proofs.Common.{◌≡◌, ℕ, ◌+◌, ◌-◌, ◌^◌, ◌≤◌, true, List, [], ◌∷◌, ◌++◌, Some, None, Option, arith, inl, inr, drop, length, take, option_and_then, refl, sym, ap, ◌∙◌, subst}
 use Rattle.std.specs.Prelude.{min, IfSome, IsErrOf, IsSome, IsSomeAnd, MatchResult, OnErr, OnOk, Result, Ok, Err}
 use Rattle.std.specs.Option.{option_map, option_map_or}
 use Rattle.blob_words.specs.declared.fault.Failed.{Failed}
 use Rattle.blob_words.specs.declared.number.PageNo.{PageNo}
 use Rattle.blob_source.specs.Faults.{Rose}
-use Rattle.page_disk.specs.Changes.{last_put, with_change, with_more, with_put, with_torn, HasRange, IsNew, OpenWrite, Stands}
+use Rattle.page_disk.specs.Changes.{last_put, with_change, with_more, with_put, with_torn, HasRange, OpenWrite, Stands}
 use Rattle.page_disk.specs.declared.change.Change.{Change}
 use Rattle.page_disk.specs.declared.change.Change.TheVariants as changes
 use Rattle.page_disk.specs.declared.fault.PutFault.{PutFault}
@@ -15,10 +15,10 @@ use Rattle.page_volumes.specs.Seen as volume
 use Rattle.page_volumes.specs.Group
 use Rattle.page_volumes.specs.Group.{changed_at, home_of, object_at, place_of, seen_by, told_more, unfiled, writer_of, Log, Slot}
 use Rattle.page_volumes.specs.Sound.{came_of, changes_of, faults_of, is_sound, writing_of}
-use Rattle.page_volumes.proofs.Acted.{same_writer, some_weaker, writer_let_go}
+use Rattle.page_volumes.proofs.Acted.{same_writer, writer_let_go}
 use Rattle.page_volumes.proofs.Counting
 use Rattle.page_volumes.proofs.Disk.{asked_group, asked_held, asked_range, filed_told, home_held, home_place, writer_held, writing_sound, HasPut}
-use Rattle.page_volumes.proofs.Goods.{closed_good, object_after, Good, Parts}
+use Rattle.page_volumes.proofs.Goods.{object_after, Good}
 use Rattle.page_volumes.proofs.Keeping.{placed_seen}
 
 -- one change more, as it is told

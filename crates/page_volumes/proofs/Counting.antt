@@ -1,13 +1,10 @@
 -- The count of a group, as its volumes are called, retired and dropped.
-use Rattle.std.proofs.Common.{◌≡◌, ℕ, zero, suc, ◌+◌, ◌-◌, ◌^◌, ◌<◌, ◌≤◌, ◌&&◌, Bool, true, false, not, List, [], ◌∷◌, ◌++◌, Some, None, Option, arith, ◌⊎◌, inl, inr, option_and_then, refl, sym, ap, ◌∙◌, subst, ⊎_elim}
-use Rattle.std.specs.Prelude.{if◌then◌else◌, min, slice_get, sum_by, IfSome, IsSome, IsSomeAnd, Result, Ok, Err}
+use Rattle.std.proofs.Common.{◌≡◌, ℕ, zero, suc, ◌+◌, ◌-◌, ◌^◌, ◌≤◌, ◌&&◌, Bool, true, false, not, List, [], ◌∷◌, ◌++◌, Some, None, Option, arith, inl, inr, refl, sym, ap, ◌∙◌, subst}
+use Rattle.std.specs.Prelude.{if◌then◌else◌, min, sum_by, IsSome}
 use Rattle.std.specs.Option.{option_map, option_map_or}
 use Rattle.std.proofs.lemmas.List.Sums.{sum_by-cons}
-use Rattle.blob_words.specs.declared.fault.Failed.{Failed}
 use Rattle.blob_words.specs.declared.number.PageNo.{PageNo}
 use Rattle.blob_source.specs.Faults.{Rose}
-use Rattle.page_disk.specs.Changes.{OpenWrite}
-use Rattle.page_disk.specs.declared.fault.PutFault.{PutFault}
 use Rattle.page_disk.specs.declared.fault.PutFault.TheVariants as faults
 use Rattle.page_volumes.specs.declared.filed.Filed.{Filed}
 use Rattle.page_volumes.specs.Seen.{with_count, Seen}

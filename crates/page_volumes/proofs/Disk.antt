@@ -1,33 +1,29 @@
 -- The calls of a group, as those of a disk of pages.
-use Rattle.std.proofs.Common.{◌≡◌, ℕ, zero, suc, ◌+◌, ◌-◌, ◌^◌, ◌<◌, ◌≤◌, ◌==◌, ◌&&◌, ◌||◌, Bool, true, false, not, List, [], ◌∷◌, ◌++◌, Some, None, Option, arith, inl, inr, drop, length, take, option_and_then, refl, sym, ap, ◌∙◌, subst}
-use Rattle.std.specs.Prelude.{if◌then◌else◌, bytes_eq, is_none, is_some, min, slice_get, unwrap_or, IfSome, IsErrOf, IsSome, IsSomeAnd, MatchResult, OnErr, OnOk, Result, Ok, Err}
+use Rattle.std.proofs.Common.{◌≡◌, ℕ, zero, suc, ◌+◌, ◌-◌, ◌<◌, ◌≤◌, ◌==◌, ◌||◌, Bool, true, false, not, List, [], ◌∷◌, Some, None, Option, arith, length, option_and_then, refl, sym, ap, ◌∙◌, subst}
+use Rattle.std.specs.Prelude.{if◌then◌else◌, is_some, slice_get, unwrap_or, IfSome, IsSome, IsSomeAnd}
 use Rattle.std.specs.List.{list_all, list_any}
 use Rattle.std.specs.Option.{option_map, option_map_or}
-use Rattle.std.proofs.lemmas.Bool.{eq-eqb, eqb-true}
-use Rattle.blob_words.specs.declared.fault.Failed.{Failed}
+use Rattle.std.proofs.lemmas.Bool.{eqb-true}
 use Rattle.blob_words.specs.declared.number.PageNo.{PageNo}
-use Rattle.blob_source.specs.Faults.{Rose}
-use Rattle.page_disk.specs.Changes.{last_put, removes, with_change, with_more, with_put, with_torn, writes, HasRange, IsNew, OpenWrite, Stands}
+use Rattle.page_disk.specs.Changes.{last_put, writes, HasRange, IsNew, OpenWrite, Stands}
 use Rattle.page_disk.specs.declared.change.Change.{Change}
 use Rattle.page_disk.specs.declared.change.Change.TheVariants as changes
-use Rattle.page_disk.specs.declared.fault.PutFault.{PutFault}
 use Rattle.page_disk.specs.declared.fault.PutFault.TheVariants as faults
 use Rattle.page_volumes.specs.declared.filed.Filed.{Filed}
-use Rattle.page_volumes.specs.Seen.{file_of, told_of, AreOf, HasBytes, HasFile, HasNone, PageFile, Seen, Told}
+use Rattle.page_volumes.specs.Seen.{file_of, told_of, HasBytes, HasFile, HasNone, PageFile, Seen, Told}
 use Rattle.page_volumes.specs.Seen as volume
 use Rattle.page_volumes.specs.Acts.{CanRemoveAt, CanRemoveFrom}
 use Rattle.page_volumes.specs.Group
-use Rattle.page_volumes.specs.Group.{changed_at, has_files, home_of, object_at, place_of, seen_by, told_more, writer_of, Log, Slot}
-use Rattle.page_volumes.specs.Sound.{are_told, came_of, changes_of, faults_of, has_put, is_as_noted, is_put, is_sound, is_there, is_write, no_write, writing_of}
-use Rattle.page_volumes.proofs.Acted.{same_writer, some_weaker, writer_let_go}
+use Rattle.page_volumes.specs.Group.{has_files, home_of, object_at, place_of, writer_of, Log, Slot}
+use Rattle.page_volumes.specs.Sound.{are_told, changes_of, is_as_noted, is_put, is_sound, is_there, is_write, no_write, writing_of}
+use Rattle.page_volumes.proofs.Acted.{some_weaker}
 use Rattle.page_volumes.proofs.Counting
-use Rattle.page_volumes.proofs.Goods.{closed_good, object_after, Good, Parts}
+use Rattle.page_volumes.proofs.Goods.{closed_good, Good, Parts}
 use Rattle.page_volumes.proofs.Holding.{any_noted, writer_noted}
-use Rattle.page_volumes.proofs.Keeping.{place_has, Logged, Placed}
+use Rattle.page_volumes.proofs.Keeping.{place_has, Logged}
 use Rattle.page_volumes.proofs.Noted.{both}
 use Rattle.page_volumes.proofs.There.{has_at, noted_at, There}
 use Rattle.page_volumes.proofs.Told.{bytes_same, no_file, nothing_put, write_is}
-use Rattle.page_volumes.proofs.Writers.{changed_here, writer_changed}
 
 -- a group takes calls where its volumes stand as noted
 pub writing_sound : (group : Group.Group) → is_sound group ≡ true → writing_of group ≡ group.write

@@ -1,5 +1,5 @@
 -- A new group.
-use Rattle.std.proofs.Common.{◌≡◌, ℕ, zero, suc, ◌+◌, ◌<◌, ◌≤◌, ◌&&◌, ◌||◌, Bool, true, false, not, List, [], ◌∷◌, Some, None, Option, arith, length, map, refl, sym, ap, ◌∙◌, subst}
+use Rattle.std.proofs.Common.{◌≡◌, ℕ, ◌<◌, ◌&&◌, ◌||◌, Bool, true, false, not, List, [], ◌∷◌, Some, None, Option, arith, length, refl, sym, ap, subst}
 use Rattle.std.specs.Prelude.{if◌then◌else◌, is_none, is_some, slice_get, IfSome, IsSome}
 use Rattle.std.specs.List.{list_all, list_any}
 use Rattle.std.specs.Option.{option_map, option_map_or}
@@ -12,7 +12,7 @@ use Rattle.page_volumes.specs.Sound.{are_told, each_passes, is_as_noted, is_writ
 use Rattle.page_volumes.specs.declared.filed.Filed.{Filed}
 use Rattle.page_volumes.specs.Kept.{new_log, Book, CanRemove, Kept}
 use Rattle.page_volumes.specs.Plain.{log_of}
-use Rattle.page_volumes.proofs.Goods.{Good, Parts}
+use Rattle.page_volumes.proofs.Goods.{Good}
 use Rattle.page_volumes.proofs.Keeping.{Logged}
 use Rattle.page_volumes.proofs.Noted.{and_of, both}
 

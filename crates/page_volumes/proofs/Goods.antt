@@ -1,10 +1,9 @@
 -- The calls of a group keep what it notes in agreement, and its volumes standing as noted.
-use Rattle.std.proofs.Common.{◌≡◌, ℕ, zero, suc, ◌<◌, ◌==◌, ◌||◌, Bool, true, false, not, List, [], ◌∷◌, ◌++◌, Some, None, Option, length, map, option_and_then, inl, inr, refl, sym, ap, ◌∙◌, subst}
-use Rattle.std.specs.Prelude.{if◌then◌else◌, is_some, min, slice_get, ◌^◌, ◌-◌, ◌+◌, IfSome, IsSome, IsSomeAnd, Result, Ok, Err}
+use Rattle.std.proofs.Common.{◌≡◌, ℕ, suc, ◌<◌, ◌||◌, true, false, not, List, [], ◌∷◌, ◌++◌, Some, None, Option, length, option_and_then, inl, inr, refl, sym, ap, ◌∙◌, subst}
+use Rattle.std.specs.Prelude.{is_some, slice_get, ◌-◌, ◌+◌, IfSome, IsSomeAnd, Result, Ok, Err}
 use Rattle.std.specs.List.{list_any}
 use Rattle.std.specs.Option.{option_map}
 use Rattle.std.proofs.lemmas.Bool.{eq-eqb}
-use Rattle.std.proofs.lemmas.List.{length-map}
 use Rattle.std.proofs.lemmas.Option.{slice_get-map}
 use Rattle.blob_words.specs.declared.fault.Failed.{Failed}
 use Rattle.blob_words.specs.declared.number.PageNo.{PageNo}
@@ -23,7 +22,7 @@ use Rattle.page_volumes.specs.Group.{changed_at, has_files, home_of, let_go, obj
 use Rattle.page_volumes.specs.Invariants.{Keeps, KeepsLog}
 use Rattle.page_volumes.specs.Plain.{of_members, slot_of, slots_of}
 use Rattle.page_volumes.specs.Sound.{is_sound}
-use Rattle.page_volumes.proofs.Acted.{some_weaker, same_writer, writer_let_go}
+use Rattle.page_volumes.proofs.Acted.{same_writer, writer_let_go}
 use Rattle.page_volumes.proofs.Filing.{apart_more, apart_of, apart_unfiled, are_apart_of, home_unfiled, Apart}
 use Rattle.page_volumes.proofs.Holding
 use Rattle.page_volumes.proofs.Holding.{Holds, IsTorn}

@@ -1,5 +1,5 @@
 -- Whether volumes stand as noted, as the parts of a group become others.
-use Rattle.std.proofs.Common.{◌≡◌, ℕ, zero, suc, ◌==◌, ◌&&◌, ◌||◌, Bool, true, false, not, List, [], ◌∷◌, ◌++◌, Some, None, Option, option_and_then, refl, sym, ap, ◌∙◌, subst}
+use Rattle.std.proofs.Common.{◌≡◌, ℕ, ◌==◌, ◌&&◌, ◌||◌, Bool, true, false, not, List, [], ◌∷◌, ◌++◌, Some, None, Option, option_and_then, refl, sym, ap, ◌∙◌, subst}
 use Rattle.std.specs.Prelude.{if◌then◌else◌, bytes_eq, is_none, is_some, length, slice_get, IfSome, IsSome, IsSomeAnd}
 use Rattle.std.specs.List.{list_all, list_any}
 use Rattle.std.specs.Option.{option_map, option_map_or, option_or}
@@ -7,18 +7,18 @@ use Rattle.std.proofs.lemmas.Bool.{eq-eqb}
 use Rattle.blob_words.specs.declared.number.PageNo.{PageNo}
 use Rattle.page_disk.specs.Changes.{last_put, put_by, with_more, writes, IsNew, OpenWrite}
 use Rattle.page_disk.specs.declared.change.Change.{Change}
-use Rattle.page_disk.specs.declared.change.Change.TheVariants.{Put, Torn, Remove, Left}
+use Rattle.page_disk.specs.declared.change.Change.TheVariants.{Put, Torn}
 use Rattle.page_disk.proofs.Found.{last_put_more}
 use Rattle.page_volumes.specs.declared.filed.Filed.{Filed}
-use Rattle.page_volumes.specs.Seen.{file_of, told_of, with_count, with_file, HasFile, PageFile, Seen, Told}
+use Rattle.page_volumes.specs.Seen.{file_of, with_count, with_file, HasFile, PageFile, Seen, Told}
 use Rattle.page_volumes.specs.Seen as volume
 use Rattle.page_volumes.specs.Group.{changed_at, has_files, is_one_of_several, let_go, object_at, retired, seen_by, settled, settled_at, slot_count, told_more, unfiled, writer_of, writer_retired, Group, Log, Slot}
-use Rattle.page_volumes.specs.Sound.{are_as_noted, are_there, are_told, each_passes, has_put, is_as_noted, is_put, is_sound, is_there, is_write}
-use Rattle.page_volumes.proofs.Acted.{settled_keeps, some_weaker}
+use Rattle.page_volumes.specs.Sound.{are_as_noted, are_there, are_told, has_put, is_as_noted, is_put, is_sound, is_there, is_write}
+use Rattle.page_volumes.proofs.Acted.{settled_keeps}
 use Rattle.page_volumes.proofs.Keeping.{Placed}
 use Rattle.page_volumes.proofs.Noted.{and_of, both, passes_any, passes_changed, passes_changed_writer, passes_none, passes_unseen, passes_writer}
 use Rattle.page_volumes.proofs.There.{all_true, any, begun_keeps, count_keeps, longer_keeps, put_keeps, put_other, removed_keeps, there_changed, there_let_go, there_more, there_same, there_seen, there_unfiled, torn_keeps, IsOther, KeepsFiles, There}
-use Rattle.page_volumes.proofs.Told.{file_more, grows_more, grows_same, no_file, noted_begun, noted_longer, noted_more, noted_put, noted_removed, noted_torn, nothing_put, written_now, Grows}
+use Rattle.page_volumes.proofs.Told.{file_more, grows_more, no_file, noted_begun, noted_longer, noted_more, noted_put, noted_removed, noted_torn, nothing_put, written_now, Grows}
 use Rattle.page_volumes.proofs.Writers.{changed_here, writer_there}
 
 -- the volumes stand as noted, and the files where they are noted to be

@@ -1,22 +1,22 @@
 -- What a group keeps among what it notes, as its parts become others.
-use Rattle.std.proofs.Common.{◌≡◌, ℕ, zero, suc, ◌+◌, ◌<◌, ◌≤◌, ◌==◌, ◌&&◌, ◌||◌, Bool, true, false, not, List, [], ◌∷◌, ◌++◌, Some, None, Option, ◌≢◌, arith, length, option_and_then, refl, sym, ap, ◌∙◌, subst, ⊎_elim}
+use Rattle.std.proofs.Common.{◌≡◌, ℕ, zero, suc, ◌+◌, ◌<◌, ◌==◌, ◌||◌, Bool, true, false, not, List, [], ◌∷◌, ◌++◌, Some, None, Option, ◌≢◌, arith, length, option_and_then, refl, sym, ap, ◌∙◌, subst, ⊎_elim}
 use Rattle.std.specs.Prelude.{if◌then◌else◌, count_by, is_some, nat_lt, slice_get, IfSome, IsSome, IsSomeAnd}
 use Rattle.std.specs.List.{list_any}
 use Rattle.std.specs.Option.{option_map, option_map_or, option_or}
-use Rattle.std.proofs.lemmas.Bool.{eq-eqb, eqb-false, eqb-true, ltb-true}
+use Rattle.std.proofs.lemmas.Bool.{eq-eqb, eqb-true, ltb-true}
 use Rattle.std.proofs.lemmas.List.Folds.{list_any-append}
 use Rattle.std.proofs.lemmas.List.Sums.{sum_by-cons}
 use Rattle.blob_words.specs.declared.number.PageNo.{PageNo}
 use Rattle.page_disk.specs.Changes.{last_put, put_by, removes, with_more, writes, IsNew, OpenWrite, Stands}
 use Rattle.page_disk.specs.declared.change.Change.{Change}
-use Rattle.page_disk.specs.declared.change.Change.TheVariants.{Put, Torn, Remove, Left}
+use Rattle.page_disk.specs.declared.change.Change.TheVariants.{Put, Torn}
 use Rattle.page_disk.proofs.Found.{last_put_more}
 use Rattle.page_volumes.specs.declared.filed.Filed.{Filed}
 use Rattle.page_volumes.specs.Seen.{Seen}
 use Rattle.page_volumes.specs.Group.{changed_at, has_files, home_of, is_at, is_one_of_several, let_go, place_of, retired, seen_by, settled, settled_at, takes_writes, unfiled, writer_of, writer_retired, Slot}
 use Rattle.page_volumes.proofs.Acted.{settled_keeps}
 use Rattle.page_volumes.proofs.Filing.{home_more, home_unfiled, other_unfiled, stands_elsewhere, Apart}
-use Rattle.page_volumes.proofs.There.{flip, is_not, or_first, or_then}
+use Rattle.page_volumes.proofs.There.{or_first, or_then}
 use Rattle.page_volumes.proofs.Told.{nothing_put}
 use Rattle.page_volumes.proofs.Writers.{changed_here, changed_or, length_changed, writer_there, writes_changed}
 

@@ -1,12 +1,11 @@
 -- What is kept in memory, as it is told.
-use Rattle.std.proofs.Common.{◌≡◌, ℕ, suc, map, ap, ◌+◌, ◌<◌, ◌≤◌, List, Some, None, Option, arith, length, option_and_then, refl, sym, subst}
+use Rattle.std.proofs.Common.{◌≡◌, ℕ, suc, map, ap, ◌+◌, ◌<◌, List, Some, None, Option, length, refl, subst}
 use Rattle.std.specs.Prelude.{IfSome}
 use Rattle.std.specs.Option.{option_map}
 use Rattle.blob_words.specs.declared.number.PageNo.{PageNo}
 use Rattle.page_disk.specs.declared.change.Change.{Change}
 use Rattle.page_disk.specs.declared.change.Change.TheVariants.{Put}
-use Rattle.page_volumes.specs.declared.filed.Filed.{Filed}
-use Rattle.page_volumes.specs.Group.{home_of, told_more, unfiled, Log}
+use Rattle.page_volumes.specs.Group.{told_more, Log}
 use Rattle.page_volumes.specs.Kept.{noted, sealed, started, taken, Kept}
 use Rattle.page_volumes.specs.Plain.{log_of}
 use Rattle.std.proofs.Common.{◌++◌, ◌∷◌, []}

@@ -1,5 +1,5 @@
 -- Slots that pass a test, each given the open write where it is the writer's.
-use Rattle.std.proofs.Common.{◌≡◌, ℕ, zero, suc, ◌&&◌, Bool, true, false, not, List, [], ◌∷◌, Some, None, Option, refl, sym, ap, ◌∙◌, subst}
+use Rattle.std.proofs.Common.{◌≡◌, ℕ, zero, suc, ◌&&◌, Bool, true, false, List, [], ◌∷◌, Some, None, Option, refl, sym, ◌∙◌, subst}
 use Rattle.std.specs.Prelude.{if◌then◌else◌, slice_get}
 use Rattle.page_disk.specs.Changes.{OpenWrite}
 use Rattle.page_volumes.specs.Group.{changed_at, writer_of, Slot}

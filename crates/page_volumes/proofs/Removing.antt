@@ -1,5 +1,5 @@
 -- A call of a page of which no file is known, and one that only reads.
-use Rattle.std.proofs.Common.{◌≡◌, ℕ, List, Some, None, Option, refl, sym, ap, ◌∙◌, subst}
+use Rattle.std.proofs.Common.{◌≡◌, ℕ, List, Some, None, Option, sym, ap, ◌∙◌, subst}
 use Rattle.std.specs.Prelude.{IfSome, IsSomeAnd, Result, Ok, Err}
 use Rattle.blob_words.specs.declared.fault.Failed.{Failed}
 use Rattle.blob_words.specs.declared.number.PageNo.{PageNo}

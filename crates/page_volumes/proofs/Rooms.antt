@@ -1,6 +1,6 @@
 -- The room that is kept, as calls use it.
-use Rattle.std.proofs.Common.{◌≡◌, ℕ, suc, ◌+◌, ◌-◌, ◌<◌, ◌≤◌, ◌==◌, Bool, true, false, not, cond, List, [], ◌∷◌, ◌++◌, Some, None, Option, arith, length, length-append, refl, sym, ap, ◌∙◌, subst}
-use Rattle.std.specs.Prelude.{if◌then◌else◌, filter, IfSome, IsSome, IsSomeAnd}
+use Rattle.std.proofs.Common.{◌≡◌, ℕ, suc, ◌+◌, ◌-◌, ◌<◌, ◌≤◌, ◌==◌, true, false, not, cond, List, [], ◌∷◌, ◌++◌, Some, None, Option, arith, length, length-append, ap, ◌∙◌}
+use Rattle.std.specs.Prelude.{if◌then◌else◌, IfSome, IsSome}
 use Rattle.std.specs.Option.{option_map}
 use Rattle.blob_words.specs.declared.number.PageNo.{PageNo}
 use Rattle.page_disk.specs.declared.change.Change.{Change}

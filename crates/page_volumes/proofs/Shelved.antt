@@ -1,5 +1,5 @@
 -- Page files in memory, as a volume tells them.
-use Rattle.std.proofs.Common.{◌≡◌, ℕ, zero, suc, ◌==◌, Bool, true, false, not, cond, List, [], ◌∷◌, Some, None, Option, map, option_and_then, take, refl, sym, ap, ◌∙◌, subst}
+use Rattle.std.proofs.Common.{◌≡◌, ℕ, zero, suc, ◌==◌, true, false, not, cond, List, [], ◌∷◌, Some, None, Option, map, option_and_then, take, refl, ap}
 use Rattle.std.specs.Prelude.{if◌then◌else◌, filter, slice_get, IsSomeAnd}
 use Rattle.page_volumes.specs.declared.stored.Stored.{Stored}
 use Rattle.page_volumes.specs.Seen.{file_of, without}

@@ -1,6 +1,6 @@
 -- A torn file may be asked to be removed.
 use Rattle.std.proofs.Common.{◌≡◌, ℕ, List, Some, None, Option, true, option_and_then, refl, sym, ap, ◌∙◌, subst}
-use Rattle.std.specs.Prelude.{slice_get, IsSomeAnd}
+use Rattle.std.specs.Prelude.{IsSomeAnd}
 use Rattle.std.specs.Option.{option_map}
 use Rattle.blob_words.specs.declared.number.PageNo.{PageNo}
 use Rattle.page_volumes.specs.declared.filed.Filed.{Filed}

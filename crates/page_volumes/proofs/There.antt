@@ -1,18 +1,18 @@
 -- Files that stand where they are noted to be, as slots, files and changes become others.
-use Rattle.std.proofs.Common.{◌≡◌, ℕ, zero, suc, ◌==◌, ◌&&◌, ◌||◌, Bool, true, false, not, cond, List, [], ◌∷◌, ◌++◌, Some, None, Option, option_and_then, refl, sym, ap, ◌∙◌, subst, ⊎_elim}
-use Rattle.std.specs.Prelude.{if◌then◌else◌, bytes_eq, filter, slice_get, IfSome, IsSomeAnd}
+use Rattle.std.proofs.Common.{◌≡◌, ℕ, ◌==◌, ◌&&◌, ◌||◌, Bool, true, false, not, cond, List, [], ◌∷◌, ◌++◌, Some, None, Option, option_and_then, refl, sym, ap, ◌∙◌, subst, ⊎_elim}
+use Rattle.std.specs.Prelude.{if◌then◌else◌, slice_get}
 use Rattle.std.specs.List.{list_all, list_any}
 use Rattle.std.specs.Option.{option_map, option_map_or, option_or}
 use Rattle.std.proofs.lemmas.Bool.{eq-eqb, eqb-true}
 use Rattle.blob_words.specs.declared.number.PageNo.{PageNo}
 use Rattle.page_disk.specs.Changes.{last_put, put_by, writes}
 use Rattle.page_disk.specs.declared.change.Change.{Change}
-use Rattle.page_disk.specs.declared.change.Change.TheVariants.{Put, Torn, Remove, Left}
+use Rattle.page_disk.specs.declared.change.Change.TheVariants.{Put}
 use Rattle.page_disk.proofs.Found.{last_put_more}
 use Rattle.page_volumes.specs.declared.filed.Filed.{Filed}
 use Rattle.page_volumes.specs.Seen.{file_of, told_of, with_count, with_file, without, PageFile, Seen, Told}
 use Rattle.page_volumes.specs.Seen as volume
-use Rattle.page_volumes.specs.Group.{changed_at, has_files, home_of, is_at, let_go, object_at, retired, seen_by, settled, settled_at, unfiled, Slot}
+use Rattle.page_volumes.specs.Group.{changed_at, has_files, home_of, is_at, let_go, object_at, seen_by, settled, unfiled, Slot}
 use Rattle.page_volumes.specs.Sound.{has_put, is_put, is_there}
 use Rattle.page_volumes.proofs.Noted.{and_of, both}
 use Rattle.page_volumes.proofs.Told.{all_append, all_filter, all_weaker, file_more, file_without, written_more}

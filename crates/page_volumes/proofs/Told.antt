@@ -1,20 +1,19 @@
 -- What a volume tells, as its calls change it, and what was done.
-use Rattle.std.proofs.Common.{◌≡◌, ℕ, zero, suc, ◌+◌, ◌==◌, ◌&&◌, ◌||◌, Bool, true, false, not, cond, List, [], ◌∷◌, ◌++◌, Some, None, Option, ◌≢◌, length, refl, sym, ap, ◌∙◌, subst}
-use Rattle.std.specs.Prelude.{if◌then◌else◌, bytes_eq, filter, is_none, IfSome, IsSome, IsSomeAnd}
+use Rattle.std.proofs.Common.{◌≡◌, ℕ, ◌+◌, ◌==◌, ◌&&◌, ◌||◌, Bool, true, false, not, cond, List, [], ◌∷◌, ◌++◌, Some, None, Option, length, refl, sym, ap, ◌∙◌, subst}
+use Rattle.std.specs.Prelude.{if◌then◌else◌, bytes_eq, filter, is_none}
 use Rattle.std.specs.List.{list_all, list_any}
-use Rattle.std.specs.Option.{option_map, option_map_or, option_or}
-use Rattle.std.proofs.lemmas.Bool.{eq-eqb, eqb-false, eqb-true}
+use Rattle.std.specs.Option.{option_map, option_or}
+use Rattle.std.proofs.lemmas.Bool.{eq-eqb, eqb-true}
 use Rattle.std.proofs.lemmas.List.Folds.{list_any-append}
 use Rattle.std.proofs.lemmas.Slice.Eq.{bytes_eq-Decides}
 use Rattle.blob_words.specs.declared.number.PageNo.{PageNo}
-use Rattle.page_disk.specs.Changes.{last_put, put_by, with_more, writes, IsNew, OpenWrite}
+use Rattle.page_disk.specs.Changes.{last_put, put_by, with_more, writes, OpenWrite}
 use Rattle.page_disk.specs.declared.change.Change.{Change}
 use Rattle.page_disk.specs.declared.change.Change.TheVariants.{Put, Torn, Remove, Left}
-use Rattle.page_disk.proofs.Found.{last_put_more}
-use Rattle.page_volumes.specs.Seen.{file_of, told_of, with_file, without, PageFile, Seen, Told}
+use Rattle.page_volumes.specs.Seen.{file_of, with_file, without, PageFile, Seen, Told}
 use Rattle.page_volumes.specs.Seen as volume
 use Rattle.page_volumes.specs.Group.{Log}
-use Rattle.page_volumes.specs.Sound.{are_told, has_put, is_as_noted, is_put, is_write}
+use Rattle.page_volumes.specs.Sound.{are_told, is_as_noted, is_write}
 use Rattle.page_volumes.proofs.Noted.{and_of, both}
 
 -- lists of which each element passes

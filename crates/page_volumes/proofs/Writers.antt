@@ -1,10 +1,9 @@
 -- The writer of a group, and places of which one is changed.
-use Rattle.std.proofs.Common.{◌≡◌, ℕ, zero, suc, ◌+◌, ◌<◌, ◌≤◌, ◌==◌, ◌&&◌, ◌||◌, Bool, true, false, not, cond, List, [], ◌∷◌, Some, None, Option, arith, drop, length, map, ◌≢◌, ◌⊎◌, inl, inr, refl, sym, ap, ◌∙◌, subst}
-use Rattle.std.specs.Prelude.{if◌then◌else◌, count_by, slice_get, sum_by, IfSome, IsSomeAnd}
-use Rattle.std.specs.Option.{option_map, option_map_or}
+use Rattle.std.proofs.Common.{◌≡◌, ℕ, zero, suc, ◌+◌, ◌==◌, ◌||◌, Bool, true, false, not, List, [], ◌∷◌, Some, arith, drop, length, ◌≢◌, ◌⊎◌, inl, inr, refl, sym, ap, ◌∙◌, subst}
+use Rattle.std.specs.Prelude.{if◌then◌else◌, slice_get, IsSomeAnd}
+use Rattle.std.specs.Option.{option_map}
 use Rattle.std.proofs.lemmas.Bool.{eqb-false, eqb-true}
-use Rattle.page_volumes.specs.Seen.{Seen}
-use Rattle.page_volumes.specs.Group.{changed_at, count_at, is_one_of_several, is_retired_at, object_at, seen_by, slot_count, takes_writes, writer_of, Slot}
+use Rattle.page_volumes.specs.Group.{changed_at, is_retired_at, takes_writes, writer_of, Slot}
 
 -- the first n are retired
 pub record AllRetired (n : ℕ) (slots : List Slot) : Type 0 where

@@ -1,5 +1,5 @@
 -- A group of volumes as one disk of pages, and what its calls make of it. Own.
-use Rattle.std.specs.Prelude.{ℕ, zero, suc, ◌≡◌, ◌+◌, ◌-◌, ◌^◌, ◌<◌, ◌==◌, ◌&&◌, ◌||◌, ◌⊎◌, Bool, true, false, not, List, [], ◌∷◌, ◌++◌, count_by, filter, if◌then◌else◌, is_none, is_some, length, map, min, nat_lt, option_and_then, slice_get, sum_by, unwrap_or, IfSome, IsSomeAnd, Option, Some, None, Result, Ok, Err}
+use Rattle.std.specs.Prelude.{ℕ, zero, suc, ◌≡◌, ◌+◌, ◌-◌, ◌^◌, ◌==◌, ◌&&◌, ◌||◌, ◌⊎◌, Bool, true, false, not, List, [], ◌∷◌, ◌++◌, count_by, filter, if◌then◌else◌, is_none, is_some, length, map, min, nat_lt, option_and_then, slice_get, sum_by, unwrap_or, IfSome, IsSomeAnd, Option, Some, None, Result, Ok, Err}
 use Rattle.std.specs.List.{list_any}
 use Rattle.std.specs.Option.{option_map, option_map_or}
 use Rattle.blob_words.specs.declared.fault.Failed.{Failed}
@@ -12,7 +12,7 @@ use Rattle.page_disk.specs.declared.fault.PutFault.{PutFault}
 use Rattle.page_disk.specs.declared.fault.PutFault.TheVariants as faults
 use Rattle.page_volumes.specs.declared.filed.Filed.{Filed}
 use Rattle.page_volumes.specs.Seen as volume
-use Rattle.page_volumes.specs.Seen.{open_page, with_count, AreOf, Seen}
+use Rattle.page_volumes.specs.Seen.{with_count, AreOf, Seen}
 
 -- a place in the list: the volume that is held, the count of one that was dropped, and whether it is retired
 pub record Slot : Type 0 where

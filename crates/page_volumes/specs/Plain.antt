@@ -1,5 +1,5 @@
 -- What the places of volumes of some kind are seen as, given what one such volume is seen as.
-use Rattle.std.specs.Prelude.{ℕ, List, map, Option, None}
+use Rattle.std.specs.Prelude.{List, map, None}
 use Rattle.std.specs.Option.{option_map}
 use Rattle.page_disk.specs.Changes.{OpenWrite}
 use Rattle.page_volumes.specs.Seen.{Seen}

@@ -1,12 +1,12 @@
 -- Whether volumes stand as a group noted. A boxed object can't be spoken of by what a struct keeps, so a test says it, and every call of a disk asks for it.
 -- Own.
-use Rattle.std.specs.Prelude.{ℕ, ◌==◌, ◌&&◌, ◌||◌, Bool, true, false, not, List, [], ◌∷◌, bytes_eq, if◌then◌else◌, is_some, is_none, min, ◌^◌, ◌-◌, slice_get, Option, Some, None}
+use Rattle.std.specs.Prelude.{ℕ, ◌==◌, ◌&&◌, ◌||◌, Bool, true, false, List, [], ◌∷◌, bytes_eq, if◌then◌else◌, is_none, min, ◌^◌, ◌-◌, Option, Some, None}
 use Rattle.std.specs.List.{list_all, list_any}
 use Rattle.std.specs.Option.{option_map, option_map_or}
 use Rattle.page_disk.specs.Changes.{last_put, writes, OpenWrite}
 use Rattle.page_disk.specs.declared.change.Change.{Change}
 use Rattle.page_volumes.specs.declared.filed.Filed.{Filed}
-use Rattle.page_volumes.specs.Seen.{file_of, told_of, PageFile, Seen, Told}
+use Rattle.page_volumes.specs.Seen.{told_of, PageFile, Seen, Told}
 use Rattle.page_volumes.specs.Group.{count_of, object_at, Group, Log, Slot}
 
 -- whether a volume has the open write that is noted

@@ -13,22 +13,24 @@ use Rattle.blob_entries.specs.Statuses as code
 use Rattle.blob_entries.specs.declared.entry.Entry.{Entry}
 use Rattle.blob_entries.proofs.Finishing.{broken_apart}
 use Rattle.blob_registry.specs.Sweeps.{swept}
-use Rattle.blob_model.specs.Builds.{Build}
+use Rattle.blob_model.specs.Builds.{Build, builds}
 use Rattle.blob_model.specs.History.{History, said, said_all}
 use Rattle.blob_model.specs.Jobs.{breaks_waiting, unstored}
-use Rattle.blob_model.specs.Live.{is_needed, is_rooted}
+use Rattle.blob_model.specs.Live.{is_live, is_needed, is_rooted}
 use Rattle.blob_model.specs.Order.{named, Distinct}
 use Rattle.blob_model.specs.Renderers.{is_alive}
 use Rattle.blob_model.specs.Session.{Session, page_limit}
+use Rattle.blob_model.specs.Settle.{drops}
 use Rattle.blob_model.specs.Standing.{ended, is_unfinished, was_granted}
 use Rattle.blob_model.specs.Transport.{has_all}
 use Rattle.blob_model.proofs.Lists.{all_reverse, false_true, or_first, or_second}
-use Rattle.blob_model.proofs.live.Agreement.{unfinished_all}
+use Rattle.blob_model.proofs.live.Agreement.{builds_all, unfinished_all}
 use Rattle.registry_laws.specs.Agree.{Agrees, AgreesToEnd, Beside, IsEntryOf, IsGone}
+use Rattle.registry_laws.specs.Laws.{SweepAgrees}
 use Rattle.registry_laws.proofs.Drops.{Tells, dropping, goes, lives_named, named_next}
-use Rattle.registry_laws.proofs.Lives.{IsBehind, TestsAgree, behind_next, lives, living, test_at, tests_agree}
+use Rattle.registry_laws.proofs.Lives.{IsBehind, TestsAgree, behind_all, behind_next, live_living, lives, living, test_at, tests_agree}
 use Rattle.registry_laws.proofs.Pass.{StandsAs, agrees_as, breaks_said, marked_as}
-use Rattle.registry_laws.proofs.Places.{ArePlaced, other_name}
+use Rattle.registry_laws.proofs.Places.{ArePlaced, names_of, other_name, placed}
 
 abbrev Entries : Type 0
 Entries = List (Option Entry)
@@ -204,3 +206,24 @@ module _ (s : Session) (h : History) (names : List ℕ) (whole : Entries) (sound
     swept_marked (number + 1) list later distinct.1 placed.1 beside.1 (behind_next whole number held later behind)
         (told_next build list distinct tells) marked.1,
   )
+
+pub sweep_agrees : SweepAgrees
+sweep_agrees s h book tell =
+    let page = (page_limit s) in
+    let list = builds (page_limit s) h in
+    let at : ArePlaced book.names 0 list = subst (λ (names : List ℕ). ArePlaced names 0 list) (sym tell.agree.names) (placed list tell.distinct) in
+    let tells : (name : ℕ) → named name list ≡ true → is_live page h name ≡ named name (living page h list) =
+    λ name there. ap (λ (xs : List Build). named name xs) (live_living page h) in
+    let same : builds page (said_all h (drops s h)) ≡ list = builds_all page h (drops s h) in
+    record {
+      agree = record {
+        names = tell.agree.names ∙ ap names_of (sym same);
+        each = subst (λ (all : List Build). Beside (Agrees page (said_all h (drops s h))) all (swept book.names 0 book.entries)) (sym same)
+            (swept_agrees s h book.names book.entries tell.sound (is_live page h) list 0 list book.entries tell.distinct at
+            tell.agree.each (behind_all book.entries) tells
+            (all_over h (is_live page h) list));
+      };
+      marks = λ marked. subst (λ (all : List Build). Beside (AgreesToEnd s (said_all h (drops s h))) all (swept book.names 0 book.entries)) (sym same)
+          (swept_marked s h book.names book.entries tell.sound (is_live page h) list 0 list book.entries tell.distinct at
+          tell.agree.each (behind_all book.entries) tells marked);
+    }

@@ -51,7 +51,8 @@ fn finished_by(event: &Event, answer: &Answer) -> Option<BlobName>
 
 /// The line's own answer, and that of a blob that got done.
 fn listed(alloc: Global, answer: Answer, done: Option<BlobName>) -> Result<Answers, ApplyFault>
-    ensures answers { IfOk result (λ answers. answers ≡ answer ∷ map Answer.Done (option_to_list done)) }
+    ensures answers { IfOk result (λ answers. answers
+        ≡ answer ∷ map Answer.Done (option_to_list done)) }
     ensures err { IfErr result (λ fault. fault ≡ ApplyFault.NoMemory) }
 {
     let mut answers = Answers::new(alloc);
@@ -104,7 +105,8 @@ impl Store {
 
     /// Whether the renderer was spawned.
     fn is_spawned(&self, renderer: RendererId) -> bool
-        ensures { (l : SomeLimits) (h : History) → Stands l self.now h → result ≡ is_spawned h renderer.0 }
+        ensures { (l : SomeLimits) (h : History) → Stands l self.now h
+            → result ≡ is_spawned h renderer.0 }
     {
         self.renderers.contains(&renderer.0)
     }
@@ -119,21 +121,24 @@ impl Store {
 
     /// Whether so many blobs were built as a session may have.
     fn has_all_blobs(&self) -> bool
-        ensures { (l : SomeLimits) (h : History) → Stands l self.now h → result ≡ nat_le 65536 (length (builds h)) }
+        ensures { (l : SomeLimits) (h : History) → Stands l self.now h
+            → result ≡ nat_le 65536 (length (builds h)) }
     {
         self.names.len() >= 65_536
     }
 
     /// Whether the renderer has a handle on the blob.
     fn has_handle(&self, renderer: RendererId, name: BlobName) -> bool
-        ensures { (l : SomeLimits) (h : History) → Stands l self.now h → result ≡ has_handle h renderer name }
+        ensures { (l : SomeLimits) (h : History) → Stands l self.now h
+            → result ≡ has_handle h renderer name }
     {
         self.shelf.is_held_by(renderer, name)
     }
 
     /// The size of a blob that somebody has a handle on.
     fn size_of(&self, name: BlobName) -> u64
-        ensures { (l : SomeLimits) (h : History) → Stands l self.now h → is_live h name ≡ true → result ≡ size_of h name }
+        ensures { (l : SomeLimits) (h : History) → Stands l self.now h → is_live h name ≡ true
+            → result ≡ size_of h name }
     {
         self.shelf.bytes_of(name).len() as u64
     }
@@ -155,7 +160,8 @@ impl Store {
     }
 
     fn spawn(&mut self, renderer: RendererId) -> Result<Answer, ApplyFault>
-        ensures { (l : SomeLimits) (h : History) (origin : List ℕ) → Stands l self.old h → Answered l h (events.Spawn renderer origin) self.new result }
+        ensures { (l : SomeLimits) (h : History) (origin : List ℕ) → Stands l self.old h
+            → Answered l h (events.Spawn renderer origin) self.new result }
     {
         if self.renderers.contains(&renderer.0) || self.renderers.len() >= 1024 {
             return Err(ApplyFault::Unbuilt);
@@ -166,9 +172,12 @@ impl Store {
 
     /// The plan of a build by a renderer that was spawned, with its pieces, where it is built.
     fn admit(&self, name: BlobName, parts: &[Part]) -> Option<Admitted>
-        ensures plan { (l : SomeLimits) (h : History) (renderer : SomeRenderer) → Stands l self.now h → is_spawned h renderer.0 ≡ true
-            → own_build l h renderer name parts.now ≡ option_map (λ admitted. answers.Planned admitted.plan) result }
-        ensures new { (l : SomeLimits) (h : History) → Stands l self.now h → IfSome result (λ _. is_built h name ≡ false) }
+        ensures plan { (l : SomeLimits) (h : History) (renderer : SomeRenderer)
+            → Stands l self.now h → is_spawned h renderer.0 ≡ true
+            → own_build l h renderer name parts.now
+            ≡ option_map (λ admitted. answers.Planned admitted.plan) result }
+        ensures new { (l : SomeLimits) (h : History) → Stands l self.now h
+            → IfSome result (λ _. is_built h name ≡ false) }
         ensures room { IfSome result (HasRoom self.now.limits self.now.shelf parts.now) }
     {
         if self.is_built(name) {
@@ -199,8 +208,10 @@ impl Store {
         admitted: Admitted,
     ) -> Result<(), ApplyFault>
         requires { HasRoom self.old.limits self.old.shelf parts.now admitted }
-        ensures ok { (l : SomeLimits) (h : History) (kind : List ℕ) → Stands l self.old h → is_built h name ≡ false
-            → OnOk result (Stands l self.new (heard h (events.Build renderer name kind parts.now) (answers.Planned admitted.plan))) }
+        ensures ok { (l : SomeLimits) (h : History) (kind : List ℕ)
+            → Stands l self.old h → is_built h name ≡ false
+            → OnOk result (Stands l self.new (heard h (events.Build renderer name kind parts.now)
+            (answers.Planned admitted.plan))) }
         ensures err { IfErr result (λ fault. fault ≡ ApplyFault.NoMemory) }
     {
         let bytes = joined(alloc, parts)?;
@@ -222,7 +233,9 @@ impl Store {
         name: BlobName,
         parts: &Parts,
     ) -> Result<Answer, ApplyFault>
-        ensures { (l : SomeLimits) (h : History) (kind : List ℕ) → Stands l self.old h → is_plain kind parts.now ≡ true → Answered l h (events.Build renderer name kind parts.now) self.new result }
+        ensures { (l : SomeLimits) (h : History) (kind : List ℕ)
+            → Stands l self.old h → is_plain kind parts.now ≡ true
+            → Answered l h (events.Build renderer name kind parts.now) self.new result }
     {
         if !self.is_spawned(renderer) {
             return Ok(Answer::Refused(Refusal::NoRenderer(renderer)));
@@ -235,7 +248,8 @@ impl Store {
     }
 
     fn drop_handle(&mut self, renderer: RendererId, name: BlobName) -> Answer
-        ensures { (l : SomeLimits) (h : History) → Stands l self.old h → Answered l h (events.Drop renderer name) self.new (Ok result) }
+        ensures { (l : SomeLimits) (h : History) → Stands l self.old h
+            → Answered l h (events.Drop renderer name) self.new (Ok result) }
     {
         if !self.is_spawned(renderer) {
             return Answer::Refused(Refusal::NoRenderer(renderer));
@@ -259,9 +273,15 @@ impl Store {
         off: u64,
         len: Option<u64>,
     ) -> Option<Reader>
-        ensures reader { (l : SomeLimits) (h : History) → Stands l self.now h → is_live h name ≡ true
+        ensures reader { (l : SomeLimits) (h : History)
+            → Stands l self.now h → is_live h name ≡ true
             → MatchOption result (is_unbuilt_read h number name off len ≡ true)
-            (λ reader. (is_unbuilt_read h number name off len ≡ false) × (reader ≡ record { number = number; blob = name; place = off; end = range_end (size_of h name) off len })) }
+            (λ reader. (is_unbuilt_read h number name off len ≡ false) × (reader ≡ record {
+              number = number;
+              blob = name;
+              place = off;
+              end = range_end (size_of h name) off len;
+            })) }
     {
         if self.is_open(number) {
             return None;
@@ -292,7 +312,8 @@ impl Store {
         off: u64,
         len: Option<u64>,
     ) -> Result<Answer, ApplyFault>
-        ensures { (l : SomeLimits) (h : History) → Stands l self.old h → Answered l h (events.Read renderer number name off len) self.new result }
+        ensures { (l : SomeLimits) (h : History) → Stands l self.old h
+            → Answered l h (events.Read renderer number name off len) self.new result }
     {
         if !self.is_spawned(renderer) {
             return Ok(Answer::Refused(Refusal::NoRenderer(renderer)));
@@ -314,7 +335,8 @@ impl Store {
 
     /// The next bytes of the reader, `count` of them.
     fn next_bytes(&self, alloc: Global, reader: &Reader, count: u64) -> Result<Octets, ApplyFault>
-        ensures bytes { IfOk result (λ bytes. bytes ≡ take count (drop reader.now.place (bytes_in (blob_at self.now.shelf.blobs reader.now.blob)))) }
+        ensures bytes { IfOk result (λ bytes. bytes ≡ take count (drop reader.now.place
+            (bytes_in (blob_at self.now.shelf.blobs reader.now.blob)))) }
         ensures err { IfErr result (λ fault. fault ≡ ApplyFault.NoMemory) }
     {
         let all = self.shelf.bytes_of(reader.blob);
@@ -323,7 +345,8 @@ impl Store {
     }
 
     fn step(&mut self, alloc: Global, number: ReaderId) -> Result<Answer, ApplyFault>
-        ensures { (l : SomeLimits) (h : History) → Stands l self.old h → Answered l h (events.Step number) self.new result }
+        ensures { (l : SomeLimits) (h : History) → Stands l self.old h
+            → Answered l h (events.Step number) self.new result }
     {
         let Some(found) = self.readers.find(number) else {
             return Ok(Answer::Refused(Refusal::NoReader(number)));
@@ -342,8 +365,10 @@ impl Store {
 
     /// Closes the reader of a blob, and lets the blob go where nobody else keeps it.
     fn close(&mut self, number: ReaderId, name: BlobName)
-        ensures { (l : SomeLimits) (h : History) (reader : SomeReader) (status : SomeStatus) → Stands l self.old h → reader_at self.old.readers number ≡ Some reader
-            → reader.blob ≡ name → Stands l self.new (heard h (events.Step number) (answers.Ended number status)) }
+        ensures { (l : SomeLimits) (h : History) (reader : SomeReader) (status : SomeStatus)
+            → Stands l self.old h → reader_at self.old.readers number ≡ Some reader
+            → reader.blob ≡ name
+            → Stands l self.new (heard h (events.Step number) (answers.Ended number status)) }
     {
         self.readers.close(number);
         if self.readers.reads(name) {
@@ -356,7 +381,8 @@ impl Store {
     }
 
     fn finish(&mut self) -> Answer
-        ensures { (l : SomeLimits) (h : History) → Stands l self.old h → Answered l h events.Finish self.new (Ok result) }
+        ensures { (l : SomeLimits) (h : History) → Stands l self.old h
+            → Answered l h events.Finish self.new (Ok result) }
     {
         self.ended = true;
         self.shelf.clear();
@@ -366,7 +392,8 @@ impl Store {
 
     /// The line's own effect and answer.
     fn answer(&mut self, alloc: Global, event: &Event) -> Result<Answer, ApplyFault>
-        ensures { (l : SomeLimits) (h : History) → Stands l self.old h → Answered l h event.now self.new result }
+        ensures { (l : SomeLimits) (h : History) → Stands l self.old h
+            → Answered l h event.now self.new result }
     {
         match event {
             Event::Spawn { r, .. } => self.spawn(*r),
@@ -393,7 +420,8 @@ impl Store {
 
     /// Applies a line: its own effect, then the settling, then the tally.
     pub fn apply(&mut self, alloc: Global, event: Event) -> Result<Group, ApplyFault>
-        ensures { (l : SomeLimits) (h : History) → Rests l self.old h → Applies l h event self.new result }
+        ensures { (l : SomeLimits) (h : History) → Rests l self.old h
+            → Applies l h event self.new result }
     {
         let answer = self.answer(alloc, &event)?;
         let done = finished_by(&event, &answer);

@@ -84,7 +84,7 @@ module _ (s : Session) (h : History) (event : Event) (still : has_ended h ≡ fa
 -- ---- what is unfinished stands
 
 module _ (page : ℕ) (h : History) where
-  unfinished_back : (event : Event) (own : List Answer) (name : ℕ) → is_unfinished (after h event own) name ≡ true → is_unfinished h name ≡ true
+  pub unfinished_back : (event : Event) (own : List Answer) (name : ℕ) → is_unfinished (after h event own) name ≡ true → is_unfinished h name ≡ true
   unfinished_back event [] name e = e
   unfinished_back event (answer ∷ more) name e = first answer (all (heard_first h event answer) more e)
     where
@@ -194,7 +194,7 @@ module _ (s : Session) (groups : List Group) (event : Event) (own : List Answer)
   abbrev behind : History
   behind = after (history_from start groups) event own
 
-  caused_behind : IsCaused s behind
+  pub caused_behind : IsCaused s behind
   caused_behind = own_by_caused s h event still (caused_from s groups legal) (refusal s h event) own refl is_own
 
   covered : AllByRecursion (IsCovered s h event own) (builds (page_limit s) behind)

@@ -79,10 +79,10 @@ waiting_by_status s h build apart e = go (ended h build.name) apart e
 
 module _ (s : Session) (h : History) (build : Build) where
   -- a shared plan grants nothing at its line
-  granted_shared : (n : ℕ) → build.plan ≡ Some (plans.Shared n) → is_granted h build ≡ was_granted h build.name
+  pub granted_shared : (n : ℕ) → build.plan ≡ Some (plans.Shared n) → is_granted h build ≡ was_granted h build.name
   granted_shared n at = ap (λ (p : Option Plan). is_granted h (record build { plan = p })) at
 
-  waits_shared : (n : ℕ) → build.plan ≡ Some (plans.Shared n) → is_waiting h build ≡ (is_unfinished h build.name && not (was_granted h build.name))
+  pub waits_shared : (n : ℕ) → build.plan ≡ Some (plans.Shared n) → is_waiting h build ≡ (is_unfinished h build.name && not (was_granted h build.name))
   waits_shared n at = ap (λ (p : Option Plan). is_waiting h (record build { plan = p })) at ∙ go (is_unfinished h build.name)
     where
       go : (b : Bool) → (b && true && not (was_granted h build.name)) ≡ (b && not (was_granted h build.name))

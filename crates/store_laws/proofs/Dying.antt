@@ -39,7 +39,7 @@ Urls = List (List ℕ × Url)
 abbrev Open : Type 0
 Open = List (ℕ × OpenReader)
 
-turned : (a b : ℕ) → (a == b) ≡ false → (b == a) ≡ false
+pub turned : (a b : ℕ) → (a == b) ≡ false → (b == a) ≡ false
 turned a b apart = by (b == a) refl
   where
     by : (c : Bool) → (b == a) ≡ c → c ≡ false

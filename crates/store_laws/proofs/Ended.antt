@@ -32,7 +32,7 @@ use Rattle.store_laws.proofs.PiecesEntered.{pieces_are_entered}
 use Rattle.store_laws.proofs.Unpinned.{unpinned_stands}
 
 -- items of a data handle are there where as many weigh for it
-slots_same : (k : ℕ) (one other : List (Option Share)) → weights (range_weight k) one ≡ weights (range_weight k) other
+pub slots_same : (k : ℕ) (one other : List (Option Share)) → weights (range_weight k) one ≡ weights (range_weight k) other
     → holds_slot one k ≡ holds_slot other k
 slots_same k one other same = by (holds_slot one k) refl (holds_slot other k) refl
   where

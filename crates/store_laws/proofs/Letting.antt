@@ -62,7 +62,7 @@ module _ (all : List Piece) where
       λ i. cond (same number i) ((number, off, length_in all number) ∷ placed_same p q same (off + length_in all number) more i)
       (placed_same p q same (off + length_in all number) more i)
 
-  sheet_same : (p q : Test) (asked : List ℕ) (number : ℕ) (one : Option (List ℕ)) → ((piece : ℕ) → p number piece ≡ q number piece)
+  pub sheet_same : (p q : Test) (asked : List ℕ) (number : ℕ) (one : Option (List ℕ)) → ((piece : ℕ) → p number piece ≡ q number piece)
       → sheet_of all p asked number one ≡ sheet_of all q asked number one
   sheet_same p q asked number None same = refl
   sheet_same p q asked number (Some list) same =

@@ -1,14 +1,12 @@
 -- The parts stand for the history in which a job was lost.
-use Rattle.std.proofs.Common.{◌≡◌, ℕ, ◌+◌, ◌==◌, not, Bool, true, false, List, [], ◌∷◌, Option, Some, None, cond, refl, ap, sym, ◌∙◌}
+use Rattle.std.proofs.Common.{◌≡◌, ℕ, ◌+◌, ◌==◌, Bool, true, false, List, Option, Some, None, cond, refl, ap, sym, ◌∙◌}
 use Rattle.std.specs.Option.{option_map, option_map_or}
 use Rattle.blob_words.specs.declared.number.JobNo.{JobNo}
 use Rattle.session_script.specs.declared.event.Event.TheVariants as events
 use Rattle.answer_text.specs.declared.answer.Answer.TheVariants as answers
-use Rattle.answer_text.specs.declared.refusal.Refusal.TheVariants as refusals
 use Rattle.item_shares.specs.declared.shares.Share.{Share}
 use Rattle.page_files.specs.Files.{is_in_flight, turned_off, Files}
 use Rattle.page_files.specs.declared.job.Job.{Job}
-use Rattle.blob_model.specs.Choice.{first_that}
 use Rattle.blob_model.specs.History.{heard, History}
 use Rattle.blob_model.specs.Jobs.{in_flight, without_job, Job as JobSaid}
 use Rattle.blob_model.specs.Builds.{builds}
@@ -17,13 +15,13 @@ use Rattle.blob_model.specs.Session.{page_limit, Session}
 use Rattle.blob_model.proofs.Lists.{false_true}
 use Rattle.model_bridges.specs.Bridges.{job_as}
 use Rattle.store_laws.specs.Items.{holds_piece}
-use Rattle.store_laws.specs.JobLaws.{JobLinesStand, LostStands}
+use Rattle.store_laws.specs.JobLaws.{LostStands}
 use Rattle.store_laws.specs.PageFiles.{with_held, PagesStand}
 use Rattle.store_laws.specs.Uses.{page_facts_of}
 use Rattle.store_laws.proofs.Unmarked.{unmarked_right}
 
 -- the job in flight has the number that the history says
-flying_same : (is_held : ℕ → Bool) (flying : Option JobSaid) (job : Option Job) (number : JobNo)
+pub flying_same : (is_held : ℕ → Bool) (flying : Option JobSaid) (job : Option Job) (number : JobNo)
     → option_map job_as job ≡ option_map (with_held is_held) flying
     → option_map_or (λ (one : JobSaid). one.number == number.0) flying false ≡ is_in_flight number job
 flying_same is_held None None number same = refl
@@ -34,7 +32,7 @@ flying_same is_held (Some one) (Some other) number same =
     ap (λ (said : JobSaid). said.number == number.0) (sym equal)
 
 -- and once it has ended there is none
-none_flies : (flying : Option JobSaid) (number : ℕ) → option_map_or (λ (one : JobSaid). one.number == number) flying false ≡ true
+pub none_flies : (flying : Option JobSaid) (number : ℕ) → option_map_or (λ (one : JobSaid). one.number == number) flying false ≡ true
     → without_job number flying ≡ None
 none_flies None number flies = refl
 none_flies (Some one) number flies = ap (λ (b : Bool). cond {A = Option JobSaid} b None (Some one)) flies
@@ -56,7 +54,7 @@ pages_lost s h shares files job stand flies = record {
   same_paging = refl;
 }
 
-losing : LostStands
+pub losing : LostStands
 losing s h stands parts told table unmarked between job flies = record {
   same_limits = between.same_limits;
   same_version = between.same_version;
@@ -85,16 +83,3 @@ losing s h stands parts told table unmarked between job flies = record {
   same_pieces = between.same_pieces;
   same_weight = between.same_weight;
 }
-
-pub job_lines_stand : JobLinesStand
-job_lines_stand = record {
-  lost_refusals = λ s h stands parts told table between job.
-      ap (λ (b : Bool). first_that ((not b, refusals.NoJob job) ∷ []))
-      (flying_same (holds_piece parts.shares) (in_flight h) parts.pages.job job between.contents.page_files_stand.job)
-      ∙ by job (is_in_flight job parts.pages.job);
-  losing = losing;
-}
-  where
-    by : (job : JobNo) (b : Bool) → first_that ((not b, refusals.NoJob job) ∷ []) ≡ cond b None (Some (refusals.NoJob job))
-    by job true = refl
-    by job false = refl

@@ -1,6 +1,6 @@
 -- The views that a recipe gives stand for the cells of its blob, and lie inside their items.
 use Rattle.std.proofs.Common.{◌≡◌, ℕ, zero, suc, ◌+◌, ◌<◌, ◌≤◌, ◌&&◌, true, false, List, [], ◌∷◌, ◌++◌}
-use Rattle.std.proofs.Common.{map, take, drop, length, refl, ap, subst, sym, ◌∙◌, Option, Some, None, arith}
+use Rattle.std.proofs.Common.{map, take, drop, length, refl, ap, subst, sym, ◌∙◌, Option, Some, None}
 use Rattle.std.specs.Prelude.{flat_map, is_none, IfSome, IsSomeAnd}
 use Rattle.std.specs.Option.{option_map_or}
 use Rattle.std.specs.List.{AllByRecursion, list_any, range_with_len}
@@ -9,7 +9,6 @@ use Rattle.std.proofs.lemmas.List.{map-append, take-map, drop-map}
 use Rattle.std.proofs.Math.Seq.{drop-append_seam, take-append_seam}
 use Rattle.blob_words.specs.declared.status.Status.{Status}
 use Rattle.blob_words.specs.declared.status.Status.TheVariants as statuses
-use Rattle.item_shares.specs.Shares.{item_at}
 use Rattle.item_shares.specs.declared.item.Item.{Item}
 use Rattle.item_shares.specs.declared.shares.Share.{Share}
 use Rattle.blob_items.specs.Cells.{cells, view_cells}
@@ -29,26 +28,13 @@ use Rattle.blob_model.specs.Builds.{Build, Cell, cells_in}
 use Rattle.blob_model.specs.Pieces.{Piece}
 use Rattle.blob_model.proofs.Lists.{append_second, false_true}
 use Rattle.store_laws.specs.Cells.{cell_at, denoted}
-use Rattle.store_laws.specs.Items.{IsInside, IsLongAs, item_length, piece_of_item}
+use Rattle.store_laws.specs.Items.{IsInside, IsLongAs, piece_of_item}
 use Rattle.store_laws.specs.Recipes.{StandsFor, own_cells, own_step_cells, recipe_cells}
 use Rattle.store_laws.proofs.Denoted.{denoted-append}
+use Rattle.store_laws.proofs.PlacesInside.{IsPlace, places_made}
 use Rattle.store_laws.proofs.ViewHas.{append_first}
 
 -- ---- lists
-
-append_all : {X : Type 0} (P : X → Type 0) (xs ys : List X) → AllByRecursion P xs → AllByRecursion P ys → AllByRecursion P (xs ++ ys)
-append_all P [] ys all more = more
-append_all P (x ∷ xs) ys all more = (all.0, append_all P xs ys all.1 more)
-
-take_all : {X : Type 0} (P : X → Type 0) (n : ℕ) (xs : List X) → AllByRecursion P xs → AllByRecursion P (take n xs)
-take_all P zero xs all = tt
-take_all P (suc n) [] all = tt
-take_all P (suc n) (x ∷ xs) all = (all.0, take_all P n xs all.1)
-
-drop_all : {X : Type 0} (P : X → Type 0) (n : ℕ) (xs : List X) → AllByRecursion P xs → AllByRecursion P (drop n xs)
-drop_all P zero xs all = all
-drop_all P (suc n) [] all = tt
-drop_all P (suc n) (x ∷ xs) all = drop_all P n xs all.1
 
 -- two lists that are cut at the same length
 cut_first : {X : Type 0} (xs ys us vs : List X) → length xs ≡ length us → xs ++ ys ≡ us ++ vs → xs ≡ us
@@ -67,72 +53,9 @@ length_range : (from len : ℕ) → length (range_with_len from len) ≡ len
 length_range from zero = refl
 length_range from (suc len) = ap suc (length_range (from + 1) len)
 
--- ---- places inside items
-
-module _ (all : List Piece) (shares : List (Option Share)) where
-  -- a place lies inside the item of its slot
-  abbrev pub IsCell : ℕ × ℕ → Type 0
-  IsCell pair =
-      IsSomeAnd (item_at shares pair.0) (λ (item : Item). (pair.1 < item_length item) × IsLongAs all item (piece_of_item item))
-
-  ranged : (slot from len : ℕ) (held : Option Item)
-      → IsSomeAnd held (λ (item : Item). (from + len ≤ item_length item) × IsLongAs all item (piece_of_item item))
-      → AllByRecursion
-      (λ (pair : ℕ × ℕ). IsSomeAnd held (λ (item : Item). (pair.1 < item_length item) × IsLongAs all item (piece_of_item item)))
-      (map (λ (place : ℕ). (slot, place)) (range_with_len from len))
-  ranged slot from len None is = absurd is
-  ranged slot from zero (Some item) is = tt
-  ranged slot from (suc len) (Some item) is =
-      let fits = is.0 in
-      let one : from < item_length item = omega (arith, fits) in
-      let rest : from + 1 + len ≤ item_length item = omega (arith, fits) in
-      ((one, is.1), ranged slot (from + 1) len (Some item) (rest, is.1))
-
-  sloted : (slot : ℕ) (places : List ℕ)
-      → AllByRecursion
-      (λ (pair : ℕ × ℕ). IsSomeAnd (item_at shares slot) (λ (item : Item). (pair.1 < item_length item) × IsLongAs all item (piece_of_item item)))
-      (map (λ (place : ℕ). (slot, place)) places)
-      → AllByRecursion IsCell (map (λ (place : ℕ). (slot, place)) places)
-  sloted slot [] is = tt
-  sloted slot (place ∷ places) is = (is.0, sloted slot places is.1)
-
-  view_in : (view : View) → IsInside all shares view → AllByRecursion IsCell (view_cells view)
-  view_in view is = sloted view.slot (range_with_len view.off view.len) (ranged view.slot view.off view.len (item_at shares view.slot) is)
-
-  pub views_in : (views : List View) → AllByRecursion (IsInside all shares) views → AllByRecursion IsCell (cells views)
-  views_in [] is = tt
-  views_in (view ∷ views) is = append_all IsCell (view_cells view) (cells views) (view_in view is.0) (views_in views is.1)
-
-  last_in : (slot from len : ℕ) → AllByRecursion IsCell (map (λ (place : ℕ). (slot, place)) (range_with_len from (suc len)))
-      → IsSomeAnd (item_at shares slot) (λ (item : Item). (from + suc len ≤ item_length item) × IsLongAs all item (piece_of_item item))
-  last_in slot from zero is = by (item_at shares slot) is.0
-    where
-      by : (held : Option Item) → IsSomeAnd held (λ (item : Item). (from < item_length item) × IsLongAs all item (piece_of_item item))
-          → IsSomeAnd held (λ (item : Item). (from + 1 ≤ item_length item) × IsLongAs all item (piece_of_item item))
-      by None is = absurd is
-      by (Some item) is = (let below = is.0 in omega (arith, below), is.1)
-  last_in slot from (suc len) is = by (item_at shares slot) (last_in slot (from + 1) len is.1)
-    where
-      by : (held : Option Item) → IsSomeAnd held (λ (item : Item). (from + 1 + suc len ≤ item_length item) × IsLongAs all item (piece_of_item item))
-          → IsSomeAnd held (λ (item : Item). (from + suc (suc len) ≤ item_length item) × IsLongAs all item (piece_of_item item))
-      by None is = absurd is
-      by (Some item) is = (let below = is.0 in omega (arith, below), is.1)
-
-  inside_by : (view : View) (len : ℕ) → view.len ≡ len → 0 < len → AllByRecursion IsCell (view_cells view) → IsInside all shares view
-  inside_by view zero same some is = absurd (omega (arith, some))
-  inside_by view (suc len) same some is =
-      subst (λ (n : ℕ). IsSomeAnd (item_at shares view.slot) (λ (item : Item). (view.off + n ≤ item_length item) × IsLongAs all item (piece_of_item item)))
-      (sym same)
-      (last_in view.slot view.off len
-      (subst (λ (n : ℕ). AllByRecursion IsCell (map (λ (place : ℕ). (view.slot, place)) (range_with_len view.off n))) same is))
-
-  -- views, none of them empty, lie inside where each of their cells does
-  pub inside_cells : (views : List View) → AllByRecursion IsCell (cells views) → AllByRecursion (IsInside all shares) views
-  inside_cells [] is = tt
-  inside_cells (view ∷ views) is = (
-    inside_by view view.len refl view.some (append_first IsCell (view_cells view) (cells views) is),
-    inside_cells views (append_second IsCell (view_cells view) (cells views) is),
-  )
+-- an item is as long as its piece
+abbrev pub IsAsLong : List Piece → Item → Type 0
+IsAsLong all item = IsLongAs all item (piece_of_item item)
 
 -- ---- what a recipe gives
 
@@ -146,10 +69,12 @@ module _ (list : List Build) (all : List Piece) (shares : List (Option Share)) (
   AreKnown = (name k : ℕ) → k < number → number_of name names ≡ Some k → is_done_at after k ≡ true → IsKnown name
 
   module _ (known : AreKnown) where
-    abbrev IsMade : List Step → List View → Type 0
-    IsMade steps own =
-        (map (cell_at all shares) (made_cells names after steps own) ≡ recipe_cells list all shares steps)
-        × AllByRecursion (IsCell all shares) (made_cells names after steps own)
+    append_nil : {X : Type 0} (xs : List X) → xs ++ [] ≡ xs
+    append_nil [] = refl
+    append_nil (x ∷ xs) = ap (λ (ys : List _). x ∷ ys) (append_nil xs)
+
+    one_view : (view : View) → denoted all shares (view ∷ []) ≡ map (cell_at all shares) (view_cells view)
+    one_view view = ap (map (cell_at all shares)) (append_nil (view_cells view))
 
     at_source : (name off len : ℕ) → StepFits names whole number (Source name off len)
         → (o : Option ℕ) → number_of name names ≡ o → option_map_or (is_done_at after) o true ≡ true → IsKnown name
@@ -162,33 +87,23 @@ module _ (list : List Build) (all : List Piece) (shares : List (Option Share)) (
 
     made : (steps : List Step) (own : List View) → AllByRecursion (StepFits names whole number) steps
         → each_source names (is_done_at after) steps ≡ true → AreOwn steps own
-        → denoted all shares own ≡ flat_map (own_step_cells all) steps → AllByRecursion (IsInside all shares) own
-        → AllByRecursion (IsInside all shares) (fixed_views steps) → IsMade steps own
-    made [] own fits done are same inside fixed = (refl, tt)
-    made (Own piece len ∷ steps) [] fits done are same inside fixed = absurd are
-    made (Own piece len ∷ steps) (view ∷ own) fits done are same inside fixed =
+        → denoted all shares own ≡ flat_map (own_step_cells all) steps
+        → map (cell_at all shares) (made_cells names after steps own) ≡ recipe_cells list all shares steps
+    made [] own fits done are same = refl
+    made (Own piece len ∷ steps) [] fits done are same = absurd are
+    made (Own piece len ∷ steps) (view ∷ own) fits done are same =
         let parts : denoted all shares (view ∷ []) ++ denoted all shares own ≡ own_cells all piece.0 len ++ flat_map (own_step_cells all) steps =
         sym (denoted-append all shares (view ∷ []) own) ∙ same in
         let long : length (denoted all shares (view ∷ [])) ≡ length (own_cells all piece.0 len) =
         long_as view piece.0 len are.0 in
         let rest = made steps own fits.1 done are.1
-        (cut_second (denoted all shares (view ∷ [])) (denoted all shares own) (own_cells all piece.0 len) (flat_map (own_step_cells all) steps) long parts)
-        inside.1 fixed in
+        (cut_second (denoted all shares (view ∷ [])) (denoted all shares own) (own_cells all piece.0 len) (flat_map (own_step_cells all) steps) long parts) in
         let first = cut_first (denoted all shares (view ∷ [])) (denoted all shares own) (own_cells all piece.0 len) (flat_map (own_step_cells all) steps) long
-        parts in (
-          map-append (cell_at all shares) (view_cells view) (made_cells names after steps own)
-              ∙ ap (λ (front : List Cell). front ++ map (cell_at all shares) (made_cells names after steps own)) (sym (one_view view) ∙ first)
-              ∙ ap (λ (back : List Cell). own_cells all piece.0 len ++ back) rest.0,
-          append_all (IsCell all shares) (view_cells view) (made_cells names after steps own) (view_in all shares view inside.0) rest.1,
-        )
+        parts in
+        map-append (cell_at all shares) (view_cells view) (made_cells names after steps own)
+        ∙ ap (λ (front : List Cell). front ++ map (cell_at all shares) (made_cells names after steps own)) (sym (one_view view) ∙ first)
+        ∙ ap (λ (back : List Cell). own_cells all piece.0 len ++ back) rest
       where
-        append_nil : {X : Type 0} (xs : List X) → xs ++ [] ≡ xs
-        append_nil [] = refl
-        append_nil (x ∷ xs) = ap (λ (ys : List _). x ∷ ys) (append_nil xs)
-
-        one_view : (view : View) → denoted all shares (view ∷ []) ≡ map (cell_at all shares) (view_cells view)
-        one_view view = ap (map (cell_at all shares)) (append_nil (view_cells view))
-
         long_as : (view : View) (number len : ℕ) → view.len ≡ len → length (denoted all shares (view ∷ [])) ≡ length (own_cells all number len)
         long_as view number len same =
             ap length (one_view view)
@@ -196,50 +111,37 @@ module _ (list : List Build) (all : List Piece) (shares : List (Option Share)) (
             ∙ length_map (λ (place : ℕ). (view.slot, place)) (range_with_len view.off view.len)
             ∙ length_range view.off view.len ∙ same
             ∙ sym (length_range 0 len) ∙ sym (length_map _ (range_with_len 0 len))
-    made (Fixed view ∷ steps) own fits done are same inside fixed =
-        let rest = made steps own fits.1 done are same inside fixed.1 in (
-          map-append (cell_at all shares) (view_cells view) (made_cells names after steps own)
-              ∙ ap (λ (front : List Cell). front ++ map (cell_at all shares) (made_cells names after steps own)) (sym (one_view view))
-              ∙ ap (λ (back : List Cell). denoted all shares (view ∷ []) ++ back) rest.0,
-          append_all (IsCell all shares) (view_cells view) (made_cells names after steps own) (view_in all shares view fixed.0) rest.1,
-        )
-      where
-        append_nil : {X : Type 0} (xs : List X) → xs ++ [] ≡ xs
-        append_nil [] = refl
-        append_nil (x ∷ xs) = ap (λ (ys : List _). x ∷ ys) (append_nil xs)
-
-        one_view : (view : View) → denoted all shares (view ∷ []) ≡ map (cell_at all shares) (view_cells view)
-        one_view view = ap (map (cell_at all shares)) (append_nil (view_cells view))
-    made (Source name off len ∷ steps) own fits done are same inside fixed =
+    made (Fixed view ∷ steps) own fits done are same =
+        map-append (cell_at all shares) (view_cells view) (made_cells names after steps own)
+        ∙ ap (λ (front : List Cell). front ++ map (cell_at all shares) (made_cells names after steps own)) (sym (one_view view))
+        ∙ ap (λ (back : List Cell). denoted all shares (view ∷ []) ++ back) (made steps own fits.1 done are same)
+    made (Source name off len ∷ steps) own fits done are same =
         let two = and_parts (option_map_or (is_done_at after) (number_of name names) true) (each_source names (is_done_at after) steps) done in
         let is = at_source name off len fits.0 (number_of name names) refl two.0 in
-        let rest = made steps own fits.1 two.1 are same inside fixed in
-        let taken = take len (drop off (cells (source_views names after name))) in (
-          map-append (cell_at all shares) taken (made_cells names after steps own)
-              ∙ ap (λ (front : List Cell). front ++ map (cell_at all shares) (made_cells names after steps own))
-              (sym (take-map (cell_at all shares) len (drop off (cells (source_views names after name))))
-              ∙ ap (take len) (sym (drop-map (cell_at all shares) off (cells (source_views names after name))))
-              ∙ ap (λ (one : List Cell). take len (drop off one)) is.0)
-              ∙ ap (λ (back : List Cell). take len (drop off (cells_in list name)) ++ back) rest.0,
-          append_all (IsCell all shares) taken (made_cells names after steps own)
-              (take_all (IsCell all shares) len (drop off (cells (source_views names after name)))
-              (drop_all (IsCell all shares) off (cells (source_views names after name)) (views_in all shares (source_views names after name) is.1)))
-              rest.1,
-        )
+        let taken = take len (drop off (cells (source_views names after name))) in
+        map-append (cell_at all shares) taken (made_cells names after steps own)
+        ∙ ap (λ (front : List Cell). front ++ map (cell_at all shares) (made_cells names after steps own))
+        (sym (take-map (cell_at all shares) len (drop off (cells (source_views names after name))))
+        ∙ ap (take len) (sym (drop-map (cell_at all shares) off (cells (source_views names after name))))
+        ∙ ap (λ (one : List Cell). take len (drop off one)) is.0)
+        ∙ ap (λ (back : List Cell). take len (drop off (cells_in list name)) ++ back) (made steps own fits.1 two.1 are same)
 
     -- an unfinished entry that misses nothing gives the cells of its blob
     pub given : (blob : List Cell) (entry : Entry) → is_pending entry.status ≡ true → StandsFor list all shares blob entry.status entry
         → AllByRecursion (StepFits names whole number) entry.recipe → each_source names (is_done_at after) entry.recipe ≡ true
         → IfSome entry.own (AreOwn entry.recipe) → misses entry ≡ false → AllByRecursion (IsInside all shares) (held_views entry)
         → (map (cell_at all shares) (made_cells names after entry.recipe (own_views entry.own)) ≡ blob)
-        × AllByRecursion (IsCell all shares) (made_cells names after entry.recipe (own_views entry.own))
+        × AllByRecursion (IsPlace (IsAsLong all) shares) (made_cells names after entry.recipe (own_views entry.own))
     given blob entry pending stands fits done own missed inside =
         let held : AllByRecursion (IsInside all shares) (fixed_views entry.recipe ++ own_views entry.own) =
-        append_first (IsInside all shares) (fixed_views entry.recipe ++ own_views entry.own) entry.views inside in
-        let is = made entry.recipe (own_views entry.own) fits done (are_own entry.own own missed) (gives entry.status pending stands)
-        (append_second (IsInside all shares) (fixed_views entry.recipe) (own_views entry.own) held)
-        (append_first (IsInside all shares) (fixed_views entry.recipe) (own_views entry.own) held) in
-        (is.0 ∙ cells_of entry.status pending stands, is.1)
+        append_first (IsInside all shares) (fixed_views entry.recipe ++ own_views entry.own) entry.views inside in (
+          made entry.recipe (own_views entry.own) fits done (are_own entry.own own missed) (gives entry.status pending stands)
+              ∙ cells_of entry.status pending stands,
+          places_made (IsAsLong all) shares names whole after number (λ name k below at is. (known name k below at is).1) entry.recipe (own_views entry.own)
+              fits done
+              (append_second (IsInside all shares) (fixed_views entry.recipe) (own_views entry.own) held)
+              (append_first (IsInside all shares) (fixed_views entry.recipe) (own_views entry.own) held),
+        )
       where
         no_own : (steps : List Step) → list_any is_own steps ≡ false → AreOwn steps []
         no_own [] none = refl

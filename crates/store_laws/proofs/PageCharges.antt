@@ -49,7 +49,7 @@ use Rattle.store_laws.proofs.Viewed.{iff_true}
 
 -- ---- lists
 
-any_found : {X : Type 0} (p test : X → Bool) (xs : List X) (x : X) → find p xs ≡ Some x → test x ≡ true → list_any test xs ≡ true
+pub any_found : {X : Type 0} (p test : X → Bool) (xs : List X) (x : X) → find p xs ≡ Some x → test x ≡ true → list_any test xs ≡ true
 any_found p test [] x there e = absurd (cc there)
 any_found p test (y ∷ xs) x there e = go (p y) there (any_found p test xs x)
   where
@@ -68,7 +68,7 @@ some_passing {X = X} P goal keep test (x ∷ xs) each f e = go (keep x) refl e (
     go true at g rest = ⊎_elim (λ (here : test x ≡ true). f x each.0 at here) (λ more. rest more) (or_cases (test x) (list_any test (filter keep xs)) g)
     go false at g rest = rest g
 
-some_length : {X : Type 0} (test : X → Bool) (xs : List X) → nat_lt 0 (length (filter test xs)) ≡ list_any test xs
+pub some_length : {X : Type 0} (test : X → Bool) (xs : List X) → nat_lt 0 (length (filter test xs)) ≡ list_any test xs
 some_length test [] = refl
 some_length {X = X} test (x ∷ xs) = go (test x) (some_length test xs)
   where
@@ -94,11 +94,11 @@ written_pages number (Some list ∷ more) = (
 )
 
 -- some piece is held there
-abbrev has_some : List (ℕ × ℕ × ℕ) → Bool
+abbrev pub has_some : List (ℕ × ℕ × ℕ) → Bool
 has_some [] = false
 has_some (one ∷ more) = true
 
-placed_some : (all : List Piece) (is_there : ℕ → Bool) (off : ℕ) (list : List ℕ) → has_some (placed_from all is_there off list) ≡ list_any is_there list
+pub placed_some : (all : List Piece) (is_there : ℕ → Bool) (off : ℕ) (list : List ℕ) → has_some (placed_from all is_there off list) ≡ list_any is_there list
 placed_some all is_there off [] = refl
 placed_some all is_there off (number ∷ list) = go (is_there number) (placed_some all is_there (off + length_in all number) list)
   where
@@ -110,7 +110,7 @@ placed_some all is_there off (number ∷ list) = go (is_there number) (placed_so
     go false rest = rest
 
 -- what a sheet is charged, and whether a piece is held there
-abbrev sheet_held : Sheet → Bool
+abbrev pub sheet_held : Sheet → Bool
 sheet_held torn = false
 sheet_held (whole size held) = has_some held
 sheet_held gone = false
@@ -120,7 +120,7 @@ sheet_size torn = 0
 sheet_size (whole size held) = size
 sheet_size gone = 0
 
-same_held : (page : FilePage) → is_held_page page ≡ sheet_held (sheet page)
+pub same_held : (page : FilePage) → is_held_page page ≡ sheet_held (sheet page)
 same_held Torn = refl
 same_held (Whole size []) = refl
 same_held (Whole size (held ∷ pieces)) = refl
@@ -143,13 +143,13 @@ module _ (s : Session) (h : History) (stands : ℕ → Bool) (book : Book) (shar
   abbrev all : List Piece
   all = pieces (page_limit s) h
 
-  abbrev keeps : Piece → Bool
+  abbrev pub keeps : Piece → Bool
   keeps piece = is_held blobs shares rows piece
 
   abbrev numbers_found : AllByRecursion (λ (piece : Piece). FoundIn all piece.number piece) all
   numbers_found = all_by_number 0 all (pieces_numbered (page_limit s) 0 blobs)
 
-  reached_are : filter keeps all ≡ reached (page_limit s) h
+  pub reached_are : filter keeps all ≡ reached (page_limit s) h
   reached_are = held_reached s h stands book shares rows quota files order contents exact rest counted
 
   some_same : (a b : ℕ) → Some a ≡ Some b → a ≡ b
@@ -231,9 +231,8 @@ module _ (s : Session) (h : History) (stands : ℕ → Bool) (book : Book) (shar
       let later = sum_lengths list each.1 in
       omega (arith, here, later, sum_by-cons (λ (one : Held). one.len) held list, sum_by-cons (length_in all) held.piece.0 (held_numbers list))
 
-  pub job_charged : held_bytes (left_of files.job) ≡ sum_by (length_in all) (job_left_in h (reached (page_limit s) h))
-  job_charged = sum_lengths (left_of files.job) contents.page_files_stand.job_lengths ∙ ap (sum_by (length_in all))
-      (go files.job (in_flight h) refl contents.page_files_stand.job)
+  pub job_numbers : held_numbers (left_of files.job) ≡ job_left_in h (reached (page_limit s) h)
+  job_numbers = go files.job (in_flight h) refl contents.page_files_stand.job
     where
       go : (one : Option FlyingJob) (flying : Option Job) → in_flight h ≡ flying → option_map job_as one ≡ option_map (with_held (holds_piece shares)) flying
           → held_numbers (left_of one) ≡ option_map_or (λ (job : Job). filter (λ (number : ℕ). list_any (λ (piece : Piece). piece.number == number)
@@ -244,6 +243,9 @@ module _ (s : Session) (h : History) (stands : ℕ → Bool) (book : Book) (shar
       go (Some one) (Some job) at e =
           let same : job_as one ≡ with_held (holds_piece shares) job = cc in
           ap (λ (j : Job). j.pieces) same ∙ sym (filter_named job at job.pieces (λ number there. there))
+
+  pub job_charged : held_bytes (left_of files.job) ≡ sum_by (length_in all) (job_left_in h (reached (page_limit s) h))
+  job_charged = sum_lengths (left_of files.job) contents.page_files_stand.job_lengths ∙ ap (sum_by (length_in all)) job_numbers
 
   -- ---- items in page files
 
@@ -285,7 +287,7 @@ module _ (s : Session) (h : History) (stands : ℕ → Bool) (book : Book) (shar
   abbrev facts : Facts
   facts = facts_of s h
 
-  there : (page number : ℕ) → holds_paged shares page number ≡ true → IsThere page number
+  pub there : (page number : ℕ) → holds_paged shares page number ≡ true → IsThere page number
   there page number e =
       let one = some_paged page number shares e in
       go one.0 one.1 one.2 (subst (λ (o : Option Item). IfSome o (IsPlaced all facts)) one.2 (contents.items.each one.0))
@@ -377,7 +379,7 @@ module _ (s : Session) (h : History) (stands : ℕ → Bool) (book : Book) (shar
       go (Some (plans.TooMany what)) f = in_memory_not n f
 
   -- a piece whose place is a page file is listed there
-  listed : (n : ℕ) (list : List ℕ) (piece : Piece) → get_or (writes h) n None ≡ Some list → place (page_limit s) h piece ≡ in_page n
+  pub listed : (n : ℕ) (list : List ℕ) (piece : Piece) → get_or (writes h) n None ≡ Some list → place (page_limit s) h piece ≡ in_page n
       → list_any (λ (each : ℕ). each == piece.number) list ≡ true
   listed n list piece written at = go (page_with (pages h) piece.number) refl at
     where
@@ -415,7 +417,7 @@ module _ (s : Session) (h : History) (stands : ℕ → Bool) (book : Book) (shar
   abbrev in_this : ℕ → Piece → Bool
   in_this n piece = is_page n (place (page_limit s) h piece)
 
-  page_has : (n : ℕ) (list : List ℕ) → get_or (writes h) n None ≡ Some list
+  pub page_has : (n : ℕ) (list : List ℕ) → get_or (writes h) n None ≡ Some list
       → (not (is_asked n) && list_any (holds_paged shares n) list) ≡ list_any (in_this n) (reached (page_limit s) h)
   page_has n list written =
       iff_true (not (is_asked n) && list_any (holds_paged shares n) list) (list_any (in_this n) (reached (page_limit s) h))
@@ -446,6 +448,26 @@ module _ (s : Session) (h : History) (stands : ℕ → Bool) (book : Book) (shar
       (listed n list piece written at)))
       (λ (gathers : is_gathered blobs rows piece.blob ≡ true). absurd (in_memory_not n (sym (facts_are.1 gathers).1 ∙ at)))
       (or_cases (holds_piece shares piece.number) (is_gathered blobs rows piece.blob) kept)) (ap (list_any (in_this n)) reached_are ∙ e))
+
+  -- so what an item has in a page file is what is reached there
+  pub held_in : (n : ℕ) → AllByRecursion (λ (piece : Piece). holds_paged shares n piece.number
+      ≡ (is_held (builds (page_limit s) h) shares rows piece && is_page n (place (page_limit s) h piece))) (pieces (page_limit s) h)
+  held_in n =
+      for_both (λ (piece : Piece). FoundIn all piece.number piece) (IsApart s h shares rows)
+      (λ (piece : Piece). holds_paged shares n piece.number ≡ (keeps piece && in_this n piece)) all
+      (λ piece found gathers. iff_true (holds_paged shares n piece.number) (keeps piece && in_this n piece)
+      (λ e.
+      let is = there n piece.number e in
+      let same : is.piece ≡ piece = cc (sym is.found ∙ found) in
+      both (keeps piece) (in_this n piece)
+      (or_first (holds_piece shares piece.number) (is_gathered blobs rows piece.blob) is.held)
+      (ap (in_this n) (sym same) ∙ ap (is_page n) is.place_is ∙ eq-eqb n n refl))
+      (λ e.
+      let parts = and_parts (keeps piece) (in_this n piece) e in
+      let at = page_place n (place (page_limit s) h piece) parts.1 in
+      ⊎_elim (λ (held : holds_piece shares piece.number ≡ true). held_there n piece found held at)
+      (λ (gathered_now : is_gathered blobs rows piece.blob ≡ true). absurd (in_memory_not n (sym (gathers gathered_now).1 ∙ at)))
+      (or_cases (holds_piece shares piece.number) (is_gathered blobs rows piece.blob) parts.0))) numbers_found apart
 
   -- ---- all page files
 

@@ -72,3 +72,7 @@ stand s (said h answer) caused = step answer (writes h) (pages h) (next_page h) 
 -- where each answer has its cause
 pub pages_in_turn : (s : Session) (h : History) → IsCaused s h → pages h ≡ numbered_pages 0 (writes h)
 pages_in_turn s h caused = sym (stand s h caused).0
+
+-- the next page number comes behind those used
+pub writes_in_turn : (s : Session) (h : History) → IsCaused s h → length (writes h) ≡ next_page h
+writes_in_turn s h caused = (stand s h caused).1

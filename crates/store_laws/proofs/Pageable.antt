@@ -37,7 +37,7 @@ use Rattle.store_laws.proofs.PassUses.{three}
 -- ---- the piece of a number among those that pass a test
 
 module _ (q : Piece → Bool) (number : ℕ) where
-  none_passes : (list : List Piece) → AllByRecursion (λ (piece : Piece). piece.number ≡ number → q piece ≡ false) list
+  pub none_passes : (list : List Piece) → AllByRecursion (λ (piece : Piece). piece.number ≡ number → q piece ≡ false) list
       → find (λ (piece : Piece). piece.number == number) (filter q list) ≡ None
   none_passes [] all = refl
   none_passes (piece ∷ list) all = go (q piece) refl (piece.number == number) refl (none_passes list all.1)
@@ -69,12 +69,12 @@ module _ (q : Piece → Bool) (number : ℕ) where
 
 -- ---- the job in flight
 
-numbers_any : (number : ℕ) (list : List Held) → list_any (λ (named : ℕ). named == number) (held_numbers list)
+pub numbers_any : (number : ℕ) (list : List Held) → list_any (λ (named : ℕ). named == number) (held_numbers list)
     ≡ list_any (λ (held : Held). held.piece.0 == number) list
 numbers_any number [] = refl
 numbers_any number (held ∷ list) = ap (λ (b : Bool). (held.piece.0 == number) || b) (numbers_any number list)
 
-filter_any : (test : ℕ → Bool) (number : ℕ) → test number ≡ true → (list : List ℕ)
+pub filter_any : (test : ℕ → Bool) (number : ℕ) → test number ≡ true → (list : List ℕ)
     → list_any (λ (named : ℕ). named == number) (filter test list) ≡ list_any (λ (named : ℕ). named == number) list
 filter_any test number passes [] = refl
 filter_any test number passes (named ∷ list) = go (test named) refl (filter_any test number passes list)
@@ -91,7 +91,7 @@ filter_any test number passes (named ∷ list) = go (test named) refl (filter_an
         by true at = absurd (false_true (sym is ∙ ap test (eqb-true named number at) ∙ passes))
         by false at = rest
 
-flies : (number : ℕ) (job : Option Job) (flying : Option JobSaid) (held : ℕ → Bool) → held number ≡ true
+pub flies : (number : ℕ) (job : Option Job) (flying : Option JobSaid) (held : ℕ → Bool) → held number ≡ true
     → option_map job_as job ≡ option_map (with_held held) flying
     → option_map_or (λ (one : JobSaid). list_any (λ (named : ℕ). named == number) one.pieces) flying false ≡ is_flying number job
 flies number None None held has same = refl

@@ -30,7 +30,8 @@ use Rattle.registry_laws.proofs.Places.{ArePlaced, same_name}
 use Rattle.store_laws.specs.Cells.{cell_at, denoted}
 use Rattle.store_laws.specs.Items.{IsInside}
 use Rattle.store_laws.specs.Recipes.{EntryStands, IsEntryFor, StandsFor}
-use Rattle.store_laws.proofs.Made.{AreKnown, IsCell, IsKnown, given, inside_cells}
+use Rattle.store_laws.proofs.Made.{AreKnown, IsAsLong, IsKnown, given}
+use Rattle.store_laws.proofs.PlacesInside.{IsPlace, within_places}
 
 abbrev Entries : Type 0
 Entries = List (Option Entry)
@@ -42,7 +43,7 @@ pub record IsComplete (names : List ℕ) (after : Entries) (entry : Entry) : Typ
   pub has_bytes : misses entry ≡ false
   pub has_sources : each_source names (is_done_at after) entry.recipe ≡ true
 
-completes : (names : List ℕ) (after : Entries) (entry : Entry) → IfSome entry.mark IsBreaking → ending names after entry ≡ Some statuses.Done
+pub completes : (names : List ℕ) (after : Entries) (entry : Entry) → IfSome entry.mark IsBreaking → ending names after entry ≡ Some statuses.Done
     → IsComplete names after entry
 completes names after entry mark is = by (is_pending entry.status) refl is
   where
@@ -104,8 +105,8 @@ module _ (list : List Build) (all : List Piece) (shares : List (Option Share)) (
         (record {
           stands = (ap (map (cell_at all shares)) so.1 ∙ two.0, refl, refl);
           steps = tt;
-          inside = inside_cells all shares done.views
-              (subst (λ (pairs : List (ℕ × ℕ)). AllByRecursion (λ (pair : ℕ × ℕ). IsCell all shares pair) pairs)
+          inside = within_places (IsAsLong all) shares done.views
+              (subst (λ (pairs : List (ℕ × ℕ)). AllByRecursion (λ (pair : ℕ × ℕ). IsPlace (IsAsLong all) shares pair) pairs)
               (sym so.1) two.1);
           owned = λ pending. absurd (false_true pending);
           sources = λ pending. absurd (false_true pending);

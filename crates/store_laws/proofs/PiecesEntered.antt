@@ -114,7 +114,7 @@ each_said (end ∷ list) = (
 
 -- ---- lists
 
-same_map : (f g : ℕ → Option (ℕ × ℕ)) (list : List ℕ) → AllByRecursion (λ (n : ℕ). f n ≡ g n) list → filter_map f list ≡ filter_map g list
+pub same_map : (f g : ℕ → Option (ℕ × ℕ)) (list : List ℕ) → AllByRecursion (λ (n : ℕ). f n ≡ g n) list → filter_map f list ≡ filter_map g list
 same_map f g [] same = refl
 same_map f g (n ∷ list) same = λ i. cons_option (same.0 i) (same_map f g list same.1 i)
 

@@ -1,5 +1,5 @@
 -- What is charged for items and for what is gathered is what the reached pieces are charged.
-use Rattle.std.proofs.Common.{◌≡◌, ℕ, ◌+◌, Bool, true, false, List, [], ap, sym, ◌∙◌, arith, Option, cond}
+use Rattle.std.proofs.Common.{◌≡◌, ℕ, ◌+◌, Bool, true, false, List, [], length, ap, sym, ◌∙◌, arith, Option, cond}
 use Rattle.std.specs.Prelude.{filter, sum_by}
 use Rattle.item_shares.specs.declared.shares.Share.{Share}
 use Rattle.item_shares.specs.Weights.{weights}
@@ -17,11 +17,11 @@ use Rattle.page_files.specs.Files.{Files}
 use Rattle.quota_queue.specs.Queue.{Queue}
 use Rattle.store_laws.specs.Items.{Facts, holds_piece}
 use Rattle.store_laws.specs.ReachLaws.{AreGatheredApart, IsApart, IsAtRest, IsCounted}
-use Rattle.store_laws.specs.Rows.{Row, gathered, is_gathered}
+use Rattle.store_laws.specs.Rows.{Row, gathered, is_gathered, pieces_gathered}
 use Rattle.store_laws.specs.Stands.{AreExact, ContentsStand}
 use Rattle.store_laws.specs.Uses.{facts_of}
-use Rattle.store_laws.specs.Weights.{memory_bytes, memory_weight, reserved_bytes, reserved_weight}
-use Rattle.store_laws.proofs.Charges.{gathered_held, memory_held, reserved_held}
+use Rattle.store_laws.specs.Weights.{memory_bytes, memory_weight, piece_weight, reserved_bytes, reserved_weight}
+use Rattle.store_laws.proofs.Charges.{gathered_held, many_gathered, memory_held, ones, pieces_held, reserved_held}
 use Rattle.store_laws.proofs.Closing.{held_reached}
 use Rattle.store_laws.proofs.Sums.{sum-each, sum-either, sum-none, sum-passing}
 
@@ -57,7 +57,7 @@ module _ (s : Session) (h : History) (stands : ℕ → Bool) (book : Book) (shar
 
   pub used_is_memory : weights memory_weight shares + gathered rows ≡ memory (page_limit s) h
   used_is_memory =
-      let items = memory_held (page_limit s) 0 whole facts shares contents.items.apart contents.items.each in
+      let items = memory_held (page_limit s) whole facts shares contents.items.apart contents.items.each in
       let rest_is : sum_by (memory_bytes facts) (filter gathers all) ≡ gathered rows =
       sum-each (memory_bytes facts) size gathers all
       (for_each (IsApart s h shares rows) (λ (piece : Piece). gathers piece ≡ true → memory_bytes facts piece ≡ size piece) all
@@ -70,7 +70,7 @@ module _ (s : Session) (h : History) (stands : ℕ → Bool) (book : Book) (shar
 
   pub reserved_is_told : weights reserved_weight shares ≡ bytes_of (reserved_of h whole (reached (page_limit s) h))
   reserved_is_told =
-      let items = reserved_held (page_limit s) 0 whole facts shares contents.items.apart contents.items.each in
+      let items = reserved_held (page_limit s) whole facts shares contents.items.apart contents.items.each in
       let none : sum_by (reserved_bytes facts) (filter gathers all) ≡ 0 =
       sum-none (reserved_bytes facts) gathers all
       (for_each (IsApart s h shares rows) (λ (piece : Piece). gathers piece ≡ true → reserved_bytes facts piece ≡ 0) all
@@ -79,3 +79,11 @@ module _ (s : Session) (h : History) (stands : ℕ → Bool) (book : Book) (shar
       let told : sum_by (reserved_bytes facts) (reached (page_limit s) h) ≡ bytes_of (reserved_of h whole (reached (page_limit s) h)) =
       sum-passing size (λ (piece : Piece). is_reserved (place (page_limit s) h piece)) (reached (page_limit s) h) in
       omega (arith, items, none, sums, told)
+
+  pub many_are_reached : weights piece_weight shares + pieces_gathered rows ≡ length (reached (page_limit s) h)
+  many_are_reached =
+      let items = pieces_held (page_limit s) whole facts shares contents.items.apart contents.items.each in
+      let rest_is = many_gathered s h stands 0 whole rows (ordered_distinct [] whole rest.ordered) contents.rows_stand in
+      let sums = parts (λ (piece : Piece). 1) in
+      let told = ones (reached (page_limit s) h) in
+      omega (arith, items, rest_is, sums, told)

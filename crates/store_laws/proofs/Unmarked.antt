@@ -30,7 +30,7 @@ use Rattle.store_laws.proofs.Agreeing.{told_now}
 use Rattle.store_laws.proofs.Paired.{AreOutlined, by_first, first_of, rest_of}
 use Rattle.store_laws.proofs.Resting.{each_ends, rests_when_settled}
 
-both_fail : (a b : Bool) → a ≡ false → b ≡ false
+pub both_fail : (a b : Bool) → a ≡ false → b ≡ false
     → first_that ((a, statuses.FileWriteFailed) ∷ (b, statuses.SourceDied) ∷ []) ≡ None
 both_fail true b e f = absurd (false_true (sym e))
 both_fail false true e f = absurd (false_true (sym f))
@@ -44,7 +44,7 @@ module _ (s : Session) (h : History) (ends : (name : ℕ) → IfSome (ended h na
       ap is_none (sym (told_now s h build (ends build.name)) ∙ ap told (sym is) ∙ still)
 
   -- of an unfinished blob of which no ending is owed nothing says that it breaks
-  unbroken : (build : Build) → ending_answers s h build ≡ [] → is_unfinished h build.name ≡ true → breaks_as s h build ≡ None
+  pub unbroken : (build : Build) → ending_answers s h build ≡ [] → is_unfinished h build.name ≡ true → breaks_as s h build ≡ None
   unbroken build none still = go (ending s h build) refl (sym (ap (λ (b : Bool). cond b (option_to_list (ending s h build)) []) still) ∙ none)
     where
       go : (o : Option Answer) → ending s h build ≡ o → option_to_list (ending s h build) ≡ [] → breaks_as s h build ≡ None
@@ -61,7 +61,7 @@ module _ (s : Session) (h : History) (ends : (name : ℕ) → IfSome (ended h na
       go clear None at = refl
       go clear (Some why) at = let bad : None ≡ Some why = sym clear ∙ at in absurd (cc bad)
 
-  each_unmarked : (stands : ℕ → Bool) (list : List Build) (entries : List (Option Entry)) → AreOutlined s h stands list entries
+  pub each_unmarked : (stands : ℕ → Bool) (list : List Build) (entries : List (Option Entry)) → AreOutlined s h stands list entries
       → AllByRecursion (λ (build : Build). ending_answers s h build ≡ []) list → Beside (IsMarkedRight s h) list entries → AreUnmarked entries
   each_unmarked stands [] [] e none right = tt
   each_unmarked stands [] (held ∷ entries) e none right = absurd right

@@ -46,3 +46,10 @@ pub mod BuiltStands
 pub mod NewItems
 pub mod Arrivals
 pub mod StepLaws
+pub mod Late
+pub mod LateJobs
+pub mod LateLaws
+pub mod Granting
+pub mod Compacting
+pub mod Marking
+pub mod Segments

@@ -1,5 +1,5 @@
 -- What is held is what is reached. Own.
-use Rattle.std.specs.Prelude.{ℕ, ◌≡◌, ◌+◌, Bool, true, false, List, [], IfSome, is_some, Option}
+use Rattle.std.specs.Prelude.{ℕ, ◌≡◌, ◌+◌, Bool, true, false, List, [], IfSome, is_some, Option, length}
 use Rattle.std.specs.List.{AllByRecursion}
 use Rattle.blob_words.specs.declared.status.Status.{Status}
 use Rattle.blob_entries.specs.Book.{Book}
@@ -22,10 +22,10 @@ use Rattle.blob_model.specs.Pieces.{Piece, pieces}
 use Rattle.blob_model.specs.Tally.{bytes_of, memory, reserved_of}
 use Rattle.item_shares.specs.Weights.{weights}
 use Rattle.store_laws.specs.Items.{holds_piece, holds_slot}
-use Rattle.store_laws.specs.Rows.{CountsViews, Row, gathered, is_gathered}
+use Rattle.store_laws.specs.Rows.{CountsViews, Row, gathered, is_gathered, pieces_gathered}
 use Rattle.store_laws.specs.Stands.{AreEmptied, AreExact, ContentsStand}
 use Rattle.store_laws.specs.Uses.{held_pieces}
-use Rattle.store_laws.specs.Weights.{memory_weight, reserved_weight}
+use Rattle.store_laws.specs.Weights.{memory_weight, piece_weight, reserved_weight}
 
 -- a history in which no ending by a broken source is owed: blobs are ordered, those that broke at their own line have ended, no blob ended with a
 -- status of one to end, and each source of an unfinished live blob lives and isn't broken
@@ -58,10 +58,12 @@ IsApart s h shares rows piece =
 abbrev pub AreGatheredApart : Session → History → List (Option Share) → List (Option Row) → Type 0
 AreGatheredApart s h shares rows = AllByRecursion (IsApart s h shares rows) (pieces (page_limit s) h)
 
--- the bytes of items in memory and those that are gathered are the bytes of the reached pieces in memory, and the reserved ones those reserved
+-- the bytes of items in memory and those that are gathered are the bytes of the reached pieces in memory, the reserved ones those reserved, and the
+-- items of pieces and the pieces gathered are as many as are reached
 pub record ChargesAre (s : Session) (h : History) (shares : List (Option Share)) (rows : List (Option Row)) : Type 0 where
   pub used : weights memory_weight shares + gathered rows ≡ memory (page_limit s) h
   pub reserved_bytes : weights reserved_weight shares ≡ bytes_of (reserved_of h (builds (page_limit s) h) (reached (page_limit s) h))
+  pub many : weights piece_weight shares + pieces_gathered rows ≡ length (reached (page_limit s) h)
 
 abbrev pub ChargesAreTold : Type 0
 ChargesAreTold =

@@ -10,6 +10,7 @@ use Rattle.item_shares.specs.declared.shares.Share.{Share}
 use Rattle.blob_entries.specs.declared.entry.Entry.{Entry}
 use Rattle.blob_entries.specs.Counts.{count_at}
 use Rattle.blob_entries.specs.Holdings.{views_in}
+use Rattle.transport_plan.specs.Spans.{piece_count}
 use Rattle.blob_model.specs.Session.{Session, page_limit}
 use Rattle.blob_model.specs.History.{History}
 use Rattle.blob_model.specs.Parts.{own_lengths}
@@ -124,6 +125,16 @@ gathered_bytes (writing slots came) = 0
 
 abbrev pub gathered : List (Option Row) → ℕ
 gathered rows = sum_by (λ (held : Option Row). option_map_or (λ (row : Row). gathered_bytes row.coming) held 0) rows
+
+-- the pieces that it makes of them
+abbrev pub gathered_pieces : Coming → ℕ
+gathered_pieces settled = 0
+gathered_pieces waiting = 0
+gathered_pieces (gathering segments) = piece_count segments.page segments.parts
+gathered_pieces (writing slots came) = 0
+
+abbrev pub pieces_gathered : List (Option Row) → ℕ
+pieces_gathered rows = sum_by (λ (held : Option Row). option_map_or (λ (row : Row). gathered_pieces row.coming) held 0) rows
 
 abbrev pub gathers : Coming → Bool
 gathers settled = false

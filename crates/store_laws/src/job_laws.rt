@@ -1,8 +1,8 @@
 //! Lines that end the job in flight.
 ghost use Rattle.store_laws.specs.JobLaws.{JobLinesStand};
 
-/// Why a line can't end a job is read off the page files, and the parts stand for the history with
-/// a job that is lost.
+/// Why a line can't end a job, and what the disk may reply to it, is read off the page files, and
+/// the parts stand for the history in which it is lost, has nothing left, or fails.
 pub fn job_lines_stand()
     ensures { JobLinesStand }
 {}

@@ -5,6 +5,8 @@ mod deciding_laws;
 mod job_laws;
 mod late_laws;
 mod laws;
+mod mark_laws;
 mod page_laws;
+mod segment_laws;
 mod step_laws;
 mod table_laws;

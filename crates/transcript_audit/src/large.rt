@@ -1,9 +1,10 @@
 //! Lines that build more than is judged.
-ghost use Rattle.std.specs.Prelude.{◌≡◌, ◌+◌, ◌&&◌, sum_by, nat_lt, IfOk};
+ghost use Rattle.std.specs.Prelude.{◌≡◌, ◌+◌, ◌&&◌, sum_by, nat_lt, is_none, IfOk};
 ghost use Rattle.blob_model.specs.Session.{Session, page_limit};
 ghost use Rattle.blob_model.specs.History.{History};
 ghost use Rattle.blob_model.specs.Parts.{parts_length};
 ghost use Rattle.blob_model.specs.Builds.{size, builds};
+ghost use Rattle.blob_model.specs.Refusals.{refusal};
 ghost use Rattle.history_notions.specs.Follows.{Follows};
 ghost use Rattle.transcript_audit.specs.Large.{has_too_many, is_large};
 
@@ -38,23 +39,29 @@ fn is_past_most(contents: &Contents, len: u128) -> Result<bool, NoMemory>
     Ok(sum > MOST_CELLS)
 }
 
-/// Whether a blob of these parts doesn't break at its line, and all blobs with it have too many
-/// cells.
-fn has_too_many(
+/// Whether the line is accepted, a blob of these parts doesn't break at it, and all blobs with it
+/// have too many cells.
+fn builds_too_many(
     contents: &Contents,
+    event: &Event,
     r: RendererId,
     b: BlobName,
     parts: &[Part],
 ) -> Result<bool, NoMemory>
     ensures { IfOk result (λ many. (s : Session) (h : History) → Follows s h contents.now
-        → many ≡ has_too_many s h r b parts.now) }
+        → many ≡ (is_none (refusal s h event.now) && has_too_many s h r b parts.now)) }
 {
-    let status = contents.line_status(r.0, b, parts)?;
-    if status.is_some() {
+    // The cells first: few lines pass them, and the refusal asks for what is reached.
+    let past = is_past_most(contents, parts_length(parts))?;
+    if !past {
         return Ok(false);
     }
-    let many = is_past_most(contents, parts_length(parts))?;
-    Ok(many)
+    let why = refusal(contents, event)?;
+    if why.is_some() {
+        return Ok(false);
+    }
+    let status = contents.line_status(r.0, b, parts)?;
+    Ok(status.is_none())
 }
 
 /// Whether the line is an accepted one whose blob doesn't break at it, and all blobs with it have
@@ -65,11 +72,7 @@ pub fn is_large(contents: &Contents, event: &Event) -> Result<bool, NoMemory>
 {
     match event {
         Event::Build { r, b, parts, .. } => {
-            let why = refusal(contents, event)?;
-            if why.is_some() {
-                return Ok(false);
-            }
-            let many = has_too_many(contents, *r, *b, parts.as_slice())?;
+            let many = builds_too_many(contents, event, *r, *b, parts.as_slice())?;
             Ok(many)
         }
         Event::Slice {
@@ -80,12 +83,8 @@ pub fn is_large(contents: &Contents, event: &Event) -> Result<bool, NoMemory>
             end,
             ..
         } => {
-            let why = refusal(contents, event)?;
-            if why.is_some() {
-                return Ok(false);
-            }
             let parts = contents.slice_parts(*src, *start, *end)?;
-            let many = has_too_many(contents, *r, *b, parts.as_slice())?;
+            let many = builds_too_many(contents, event, *r, *b, parts.as_slice())?;
             Ok(many)
         }
         _ => Ok(false),

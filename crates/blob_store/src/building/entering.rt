@@ -159,8 +159,11 @@ impl Parts {
         ensures { OnOk result (Enters renderer name (arrived renderer kind.now arrival) arrival.row
             self.old self.new) }
     {
+        let number = self.registry.registered();
+        let status = arrival.status;
         let row = register(&mut self.registry, renderer, name, kind, arrival)?;
         self.renderers.add_one(renderer, name)?;
+        self.transits.list(renderer, number, status)?;
         self.weight += row.weight;
         self.rows.push(row)?;
         Ok(())

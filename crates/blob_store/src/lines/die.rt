@@ -3,12 +3,13 @@ ghost use Rattle.std.specs.Prelude.{ℕ, ◌≡◌, ◌-◌, ◌<◌, ◌≤◌,
 ghost use Rattle.renderer_table.specs.Table.{living_of};
 ghost use Rattle.store_laws.specs.Roots.{AreRerooted};
 ghost use Rattle.store_laws.specs.TableLaws.{Departs, ReadersLeave, UrlsLeave};
-ghost use Rattle.blob_store.specs.Departing.{Goes};
+ghost use Rattle.blob_store.specs.Departing.{Bereaves, Goes};
 ghost use Rattle.blob_store.specs.Holders.{IsUnlinked, IsUnread};
 ghost use Rattle.blob_store.specs.Roots.{roots_at};
 ghost use Rattle.blob_store.specs.Seen.{reader_of};
 
 use crate::parts::Parts;
+use crate::transits::bereave;
 use answer_text::Answer;
 use blob_registry::Registry;
 use blob_words::{BlobName, RendererId};
@@ -30,6 +31,7 @@ impl Parts {
     ghost use Rattle.data_handles.specs.Table.{Table};
     ghost use Rattle.page_disk.specs.declared.change.Change.{Change};
     ghost use Rattle.session_script.specs.declared.event.Event.TheVariants as events;
+    ghost use Rattle.blob_store.specs.Ending.{Marks};
     ghost use Rattle.blob_store.specs.Says.{scene, Says};
     ghost use Rattle.blob_store.specs.Whole.{IsWhole};
 
@@ -103,7 +105,20 @@ impl Parts {
         self.drop_handles(renderer);
     }
 
-    /// A renderer dies: its handles, its URLs and its readers go.
+    // Those of a renderer's blobs whose bytes or room are still to come are to break.
+    #[tactic(auto, unfolding(crate::specs::Whole::IsWhole))]
+    fn bereave(&mut self, renderer: RendererId)
+        requires { IsWhole self.old }
+        ensures whole { IsWhole self.new }
+        ensures bereaves { Bereaves renderer.0 self.old self.new }
+    {
+        while let Some(number) = self.transits.pop(renderer) {
+            bereave(&mut self.registry, number, renderer);
+        }
+    }
+
+    /// A renderer dies: its handles, its URLs and its readers go, and the blobs whose bytes it was
+    /// to send are to break.
     #[tactic(auto, unfolding(crate::specs::Whole::IsWhole))]
     pub fn die(&mut self, renderer: RendererId) -> Answer
         requires { IsWhole self.old }
@@ -112,11 +127,15 @@ impl Parts {
         ensures says { (told : Option (List Change)) (table : Table)
             → Says (events.Die renderer) (result ∷ [])
             (scene self.old told table) (scene self.new told table) }
+        ensures marks { (told : Option (List Change)) (table : Table)
+            → Marks (events.Die renderer) (result ∷ [])
+            (scene self.old told table) (scene self.new told table) }
     {
         if let Some(why) = self.renderer_refusal(renderer) {
             return Answer::Refused(why);
         }
         self.depart(renderer);
+        self.bereave(renderer);
         Answer::Good
     }
 }

@@ -1,8 +1,9 @@
 //! Lists 1 and 3: what nobody holds goes.
 ghost use Rattle.std.specs.Prelude.{◌≡◌, ◌++◌, List, Option, map, IfOk, OnOk};
 ghost use Rattle.answer_text.specs.declared.answer.Answer.TheVariants.{Dropped};
+ghost use Rattle.blob_entries.specs.Book.{book_of};
 ghost use Rattle.blob_entries.specs.Sound.{AreSound};
-ghost use Rattle.blob_registry.specs.Sweeps.{Sweeping};
+ghost use Rattle.blob_registry.specs.Sweeps.{swept, Sweeping};
 ghost use Rattle.data_handles.specs.Boxes.{of_table};
 ghost use Rattle.item_shares.specs.Shares.{AreViewed};
 ghost use Rattle.page_disk.specs.declared.change.Change.{Change};
@@ -93,6 +94,8 @@ impl Parts {
         ensures whole { OnOk result (IsWhole self.new) }
         ensures objects { OnOk result (HaveObjects self.new.shares
             (of_table ⟦<Boxed as DataHandle>⟧.seen handles.new)) }
+        ensures swept { OnOk result (self.new.registry ≡ book_of self.old.registry.names
+            (swept self.old.registry.names 0 self.old.registry.entries)) }
         ensures drops { OnOk result ((told : Option (List Change)) → Drops answers.old answers.new
             (scene self.old told (of_table ⟦<Boxed as DataHandle>⟧.seen handles.old))
             (scene self.new told (of_table ⟦<Boxed as DataHandle>⟧.seen handles.new))) }

@@ -1,10 +1,12 @@
 //! List 2: the blobs that end now.
 ghost use Rattle.std.specs.Prelude.{◌≡◌, ◌<◌, ◌+◌, ◌++◌, List, [], ◌∷◌, flat_map, length, map};
-ghost use Rattle.std.specs.Prelude.{slice_get, IfOk, IsSomeAnd, OnOk};
+ghost use Rattle.std.specs.Prelude.{slice_get, IfOk, IsSomeAnd, OnOk, Option};
 ghost use Rattle.std.specs.Option.{option_map};
 ghost use Rattle.blob_entries.specs.Counted.{SameItems};
 ghost use Rattle.blob_entries.specs.Sound.{AreSound};
+ghost use Rattle.blob_entries.specs.Weights.{KeepsBounds};
 ghost use Rattle.blob_registry.specs.Passes.{Finishes};
+ghost use Rattle.data_handles.specs.Table.{Table};
 ghost use Rattle.page_disk.specs.declared.change.Change.{Change};
 ghost use Rattle.page_files.specs.Files.{Agrees};
 ghost use Rattle.registry_laws.specs.Laws.{ending_answer};
@@ -40,6 +42,9 @@ impl Parts {
     ghost use Rattle.blob_store.specs.Passing.{pieces_done, pieces_under, with_used};
     ghost use Rattle.blob_store.specs.Passing.{CanEnter, EntriesEnd};
     ghost use Rattle.blob_store.specs.Rows.{pieces_of_row};
+    ghost use Rattle.blob_store.specs.Ending.{Ends};
+    ghost use Rattle.blob_store.specs.Says.{scene};
+    ghost use Rattle.blob_store.specs.Unheld.{HaveObjects};
     ghost use Rattle.blob_store.specs.Whole.{IsCharged, IsWhole};
 
     // The length of a piece, where its item is in memory.
@@ -154,6 +159,7 @@ impl Parts {
             self.old.shares self.new.shares) }
         ensures sound { AreSound self.old.registry.names self.old.registry.entries }
         ensures charged { OnOk result (IsCharged self.new) }
+        ensures bounds { OnOk result (KeepsBounds self.old.registry self.new.registry) }
         ensures rest { OnOk result (self.new ≡ record self.old {
           registry = self.new.registry;
           shares = self.new.shares;
@@ -172,7 +178,7 @@ impl Parts {
     pub(crate) fn end_entries(&mut self) -> Result<Endings, NoMemory>
         requires { IsWhole self.old }
         ensures ends { IfOk result (λ list. EntriesEnd list self.old self.new) }
-        ensures charged { OnOk result (IsCharged self.new) }
+        ensures whole { OnOk result (IsWhole self.new) }
         ensures sound { AreSound self.old.registry.names self.old.registry.entries }
         ensures agrees { OnOk result ((changes : List Change)
             → Agrees self.old.pages.pages changes → Agrees self.new.pages.pages changes) }
@@ -181,5 +187,25 @@ impl Parts {
         self.enter_done(ended.as_slice())?;
         self.end_rows(ended.as_slice());
         Ok(ended)
+    }
+
+    // The blobs that end now end, and it is told of each how. After want of memory the parts are
+    // only to be dropped.
+    #[tactic(auto, unfolding(crate::specs::Ending::Ends))]
+    pub(crate) fn end_blobs(&mut self, answers: &mut Answers) -> Result<(), NoMemory>
+        requires { IsWhole self.old }
+        ensures whole { OnOk result (IsWhole self.new) }
+        ensures objects { OnOk result ((table : Table)
+            → HaveObjects self.old.shares table → HaveObjects self.new.shares table) }
+        ensures ends { OnOk result ((told : Option (List Change)) (table : Table)
+            → Ends answers.old answers.new (scene self.old told table)
+            (scene self.new told table)) }
+        ensures agrees { OnOk result ((changes : List Change)
+            → Agrees self.old.pages.pages changes → Agrees self.new.pages.pages changes) }
+    {
+        let Ok(ended) = self.end_entries() else {
+            return Err(NoMemory);
+        };
+        tell_ended(answers, ended.as_slice())
     }
 }

@@ -1,5 +1,5 @@
 -- By the law of the registry, for the numbers that pass a test.
-use Rattle.std.proofs.Common.{◌≡◌, ℕ, ◌+◌, true, sym, subst, zero-add}
+use Rattle.std.proofs.Common.{◌≡◌, ℕ, true, sym, subst, zero-add}
 use Rattle.blob_entries.specs.Book.{entry_at}
 use Rattle.blob_entries.specs.Sources.{needs}
 use Rattle.blob_registry.proofs.Least.{least}

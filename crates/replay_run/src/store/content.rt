@@ -61,7 +61,8 @@ pub fn measure_parts(parts: &[Part], page: u64, most: u64) -> Option<Measure>
     requires page { 0 < page }
     requires most { most < 2 ^ 32 }
     ensures { MatchOption result (most < byte_total parts.now) (λ measure.
-        (measure.size ≡ byte_total parts.now) × (measure.size ≤ most) × (measure.pieces ≡ piece_total page parts.now) × (measure.pieces ≤ measure.size)) }
+        (measure.size ≡ byte_total parts.now) × (measure.size ≤ most)
+        × (measure.pieces ≡ piece_total page parts.now) × (measure.pieces ≤ measure.size)) }
 {
     let mut size = 0;
     let mut pieces = 0;

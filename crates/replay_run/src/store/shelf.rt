@@ -22,7 +22,10 @@ impl Model for Shelf {
 
     ghost view = { λ shelf. record { blobs = shelf.blobs.items; pieces = shelf.pieces } };
 
-    ghost invariant = { λ shelf. IsWithin (record { blobs = shelf.blobs.items; pieces = shelf.pieces }) };
+    ghost invariant = { λ shelf. IsWithin (record {
+      blobs = shelf.blobs.items;
+      pieces = shelf.pieces;
+    }) };
 }
 
 fn is_holder(renderer: RendererId, holder: Option<RendererId>) -> bool
@@ -133,7 +136,10 @@ impl Shelf {
     pub fn push(&mut self, blob: Blob) -> Result<(), NoMemory>
         requires bytes { byte_count self.old.blobs + length blob.bytes ≤ 2 ^ 30 }
         requires pieces { self.old.pieces + blob.pieces ≤ 65536 }
-        ensures ok { OnOk result (self.new ≡ record { blobs = self.old.blobs ++ blob ∷ []; pieces = self.old.pieces + blob.pieces }) }
+        ensures ok { OnOk result (self.new ≡ record {
+          blobs = self.old.blobs ++ blob ∷ [];
+          pieces = self.old.pieces + blob.pieces;
+        }) }
         ensures err { OnErr result (self.new ≡ self.old) }
     {
         let pieces = self.pieces + blob.pieces;

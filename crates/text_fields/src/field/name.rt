@@ -34,7 +34,7 @@ impl Field for BlobName {
     fn read(_alloc: Global, text: &[u8]) -> Result<Self, LineFault> {
         match BlobName::from_text(text) {
             Ok(name) => {
-                let _number = name.number();
+                let _number = name.number(); // says that it is below 2^128
                 Ok(name)
             }
             Err(_) => Err(LineFault::Name),

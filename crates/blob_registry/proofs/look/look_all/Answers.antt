@@ -27,6 +27,7 @@ loop-round-preserved c =
       sound = said.sound;
       counted = said.counted;
       room = said.room;
+      bounds = λ weights are. said.bounds weights (so_far.bounds weights are);
       same = record {
         items = λ slot. said.items.items slot ∙ so_far.same.items slot;
         others = λ slot none. let one = so_far.same.others slot none in let two = said.items.others slot one.1 in (two.0 ∙ one.0, two.1);

@@ -2,7 +2,7 @@ use Rattle.std.proofs.Common.{◌≡◌, ◌≢◌, ℕ, ◌<◌, ◌≤◌, len
 use Rattle.std.specs.Prelude.{slice_index}
 use Rattle.blob_entries.specs.Counted.{AreCounted, SameItems}
 use Rattle.blob_entries.specs.Sound.{AreSound}
-use Rattle.blob_entries.specs.Weights.{HasRoom}
+use Rattle.blob_entries.specs.Weights.{HasRoom, KeepsBounds}
 use Rattle.blob_registry.specs.Work.{AreKept}
 use Rattle.blob_registry.proofs.Passing.{Passes}
 use Rattle.blob_registry.proofs.look.look_all.Given as goal
@@ -18,6 +18,7 @@ invariant-loop-round l = record {
   sound : AreSound l.table.names l.table.entries;
   counted : AreCounted l.table.entries l.shares;
   room : HasRoom l.table.names l.table.entries;
+  bounds : KeepsBounds l.fn.table l.table;
   same : SameItems l.fn.table.entries l.table.entries l.fn.shares l.shares;
   size : l.count ≡ length l.table.names;
 }

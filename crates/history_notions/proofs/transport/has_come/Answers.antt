@@ -1,6 +1,6 @@
 -- The segments of all blobs are looked through.
 use Rattle.std.proofs.Common.{◌∙◌}
-use Rattle.history_notions.proofs.Latest.{come_among}
+use Rattle.history_notions.proofs.Arrivals.{come_among}
 use Rattle.history_notions.proofs.transport.has_come.Goals as goal
 
 pub returns : goal.returns

@@ -1,9 +1,7 @@
-use Rattle.std.proofs.Common.{◌≡◌, ℕ, suc, ◌+◌, ◌<◌, arith, List, Some, None, get_or, length, map, option_and_then, take, ap, ◌∙◌, subst, sym}
+use Rattle.std.proofs.Common.{◌≡◌, ℕ, suc, ◌+◌, arith, Some, None, map, option_and_then, take, ap, ◌∙◌, subst, sym}
 use Rattle.std.specs.Prelude.{slice_get}
-use Rattle.std.specs.Option.{option_copied}
 use Rattle.std.proofs.lemmas.Bool.{eq-eqb, ne_eqb}
 use Rattle.std.proofs.lemmas.Option.{slice_get-get_or}
-use Rattle.page_volumes.specs.declared.stored.Stored.{Stored}
 use Rattle.page_volumes.specs.Seen.{file_of}
 use Rattle.page_volumes.specs.Shelf.{page_file}
 use Rattle.page_volumes.proofs.Shelved

@@ -1,5 +1,5 @@
 -- The law as it was proved.
-use Rattle.store_laws.proofs.Tallies.{reserved_is_told, used_is_memory}
+use Rattle.store_laws.proofs.Tallies.{many_are_reached, reserved_is_told, used_is_memory}
 use Rattle.store_laws.proofs.laws.charges_are_told.Goals as goal
 
 pub returns : goal.returns
@@ -7,4 +7,5 @@ returns c s h stands book shares rows quota files order contents exact rest coun
     record {
       used = used_is_memory s h stands book shares rows quota files order contents exact rest counted apart;
       reserved_bytes = reserved_is_told s h stands book shares rows quota files order contents exact rest counted apart;
+      many = many_are_reached s h stands book shares rows quota files order contents exact rest counted apart;
     }

@@ -4,7 +4,7 @@ use Rattle.blob_entries.proofs.Finishing.{can_make_at, completed_at, looked_done
 use Rattle.blob_entries.specs.Book.{Book, book_of, entry_at}
 use Rattle.blob_entries.specs.Counted.{AreCounted, SameItems}
 use Rattle.blob_entries.specs.Endings.{LooksAt, ending_at}
-use Rattle.blob_entries.specs.Weights.{HasRoom}
+use Rattle.blob_entries.specs.Weights.{HasRoom, KeepsBounds}
 use Rattle.blob_entries.proofs.table.Table.complete.Goals as goal
 
 pub make_at-requires : goal.make_at-requires
@@ -62,3 +62,12 @@ returns-clause-sound c =
     let done = subst (λ (b : Book). ending_at b.names b.entries (entry_at b.entries c.args.number) ≡ Some statuses.Done) (sym c.self.view_is) c.requires.done in
     rw c.set_done.ensures ((completed_at c.self.inside.names c.self.inside.entries.items c.args.number c.args.shares.now c.make_at.new.shares
     c.in_ok-views.views c.self.invariant counted room done c.in_ok-views.ensures).sound)
+
+pub returns-clause-bounds : goal.returns-clause-bounds
+returns-clause-bounds c =
+    let counted = subst (λ (b : Book). AreCounted b.entries c.args.shares.now) (sym c.self.view_is) c.requires.counted in
+    let room = subst (λ (b : Book). HasRoom b.names b.entries) (sym c.self.view_is) c.requires.room in
+    let done = subst (λ (b : Book). ending_at b.names b.entries (entry_at b.entries c.args.number) ≡ Some statuses.Done) (sym c.self.view_is) c.requires.done in
+    let bounds = (completed_at c.self.inside.names c.self.inside.entries.items c.args.number c.args.shares.now c.make_at.new.shares c.in_ok-views.views
+    c.self.invariant counted room done c.in_ok-views.ensures).bounds in
+    subst (λ (b : Book). KeepsBounds b (book_of c.self.inside.names c.set_done.new.entries.items)) c.self.view_is (rw c.set_done.ensures bounds)

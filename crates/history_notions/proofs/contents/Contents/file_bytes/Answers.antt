@@ -16,10 +16,9 @@ returns c = λ s h follows.
     let written : List Page = c.args.self.now.kept.pages in
     let blobs : List Build = c.args.self.now.builds in
     c.in_ok-bytes.ensures
-    ∙ ap (λ (all : List Piece). sum_by (page_size all) (filter (holds_some c.as_slice-pages.result.now c.as_slice-blobs.result.now list)
+    ∙ ap (λ (all : List Piece). sum_by (page_size all) (filter (holds_some c.as_slice-pages.result.now blobs list)
     c.as_slice-pages.result.now)) c.as_slice-all.ensures
-    ∙ ap (λ (pages : List Page). sum_by (page_size c.args.self.now.pieces) (filter (holds_some pages c.as_slice-blobs.result.now list) pages))
+    ∙ ap (λ (pages : List Page). sum_by (page_size c.args.self.now.pieces) (filter (holds_some pages blobs list) pages))
     c.as_slice-pages.ensures
-    ∙ ap (λ (each : List Build). sum_by (page_size c.args.self.now.pieces) (filter (holds_some written each list) written)) c.as_slice-blobs.ensures
     ∙ ap (sum_by (page_size c.args.self.now.pieces)) (files_follow s h c.args.self.now list follows)
     ∙ ap (λ (all : List Piece). sum_by (page_size all) (files_of h (builds (page_limit s) h) list)) follows.pieces_are

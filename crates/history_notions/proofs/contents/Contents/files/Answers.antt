@@ -1,7 +1,6 @@
 -- The page files that hold pieces are those of the history.
 use Rattle.std.proofs.Common.{◌≡◌, List, ap, subst, ◌∙◌}
 use Rattle.std.specs.Prelude.{filter}
-use Rattle.blob_model.specs.Builds.{Build}
 use Rattle.blob_model.specs.Pages.{Page}
 use Rattle.history_notions.specs.Chosen.{items_at}
 use Rattle.history_notions.specs.Placed.{holds_some}
@@ -10,9 +9,7 @@ use Rattle.history_notions.proofs.contents.Contents.files.Goals as goal
 
 pub returns : goal.returns
 returns c = λ s h follows.
-    let written : List Page = c.args.self.now.kept.pages in
-    subst (λ (pages : List Page). items_at pages c.in_ok-places.places ≡ filter (holds_some pages c.as_slice.result.now c.args.list.now) pages)
+    subst (λ (pages : List Page). items_at pages c.in_ok-places.places ≡ filter (holds_some pages c.args.self.now.builds c.args.list.now) pages)
     c.as_slice-pages.ensures
     c.in_ok-places.ensures
-    ∙ ap (λ (blobs : List Build). filter (holds_some written blobs c.args.list.now) written) c.as_slice.ensures
     ∙ files_follow s h c.args.self.now c.args.list.now follows

@@ -11,7 +11,6 @@ returns c = λ s h follows.
     let items : List Build = c.args.self.now.builds in
     let granted : List ℕ = c.args.self.now.kept.granted in
     c.in_ok-found.ensures
-    ∙ ap (λ (blobs : List Build). filter (is_reached_in granted blobs c.as_slice.result.now) c.as_slice-pieces.result.now) c.as_slice-builds.ensures
     ∙ ap (λ (places : List ℕ). filter (is_reached_in granted items places) c.as_slice-pieces.result.now) c.as_slice.ensures
     ∙ ap (filter (is_reached_in granted items c.in_ok-places.places)) c.as_slice-pieces.ensures
     ∙ reached_follow s h c.args.self.now c.in_ok-places.places follows (c.in_ok-places.ensures s h follows)

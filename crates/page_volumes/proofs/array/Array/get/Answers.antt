@@ -1,11 +1,9 @@
-use Rattle.std.proofs.Common.{◌≡◌, ◌+◌, ◌≤◌, None, length, sym, subst}
+use Rattle.std.proofs.Common.{length, sym, subst}
 use Rattle.page_volumes.specs.Group
 use Rattle.page_volumes.specs.Plain.{of_members}
-use Rattle.page_volumes.specs.Sound.{changes_of, writing_of}
 use Rattle.page_volumes.proofs.Clauses
 use Rattle.page_volumes.proofs.Disk
 use Rattle.page_volumes.proofs.Goods
-use Rattle.page_volumes.proofs.Goods.{Good}
 use Rattle.page_volumes.proofs.Opened
 use Rattle.page_volumes.specs.declared.writing.Writing.{Writing}
 use Rattle.page_volumes.specs.Kept.{Book, HasRoom, Kept}

@@ -1,7 +1,7 @@
 use Rattle.std.proofs.Common.{◌≡◌, ◌<◌, Some, None, [], Option, length, ap, ◌∙◌, sym, subst}
 use Rattle.std.specs.Prelude.{Err, IfSome}
 use Rattle.std.specs.Option.{option_map}
-use Rattle.page_volumes.specs.Acts.{Acts, CanRemoveAt, FailsAt}
+use Rattle.page_volumes.specs.Acts.{Acts, CanRemoveAt}
 use Rattle.page_volumes.specs.Group
 use Rattle.page_volumes.specs.Group.{changed_at, forgotten, place_of, seen_by, takes_writes, unfiled, writer_of, writer_seen, Log}
 use Rattle.page_volumes.specs.Kept.{started, Kept}

@@ -1,8 +1,7 @@
-use Rattle.std.proofs.Common.{◌≡◌, ◌<◌, List, option_and_then, length, ap, ◌∙◌, sym, subst}
-use Rattle.std.specs.Prelude.{IfSome}
-use Rattle.page_volumes.specs.Group.{let_go, unfiled}
+use Rattle.std.proofs.Common.{option_and_then, ap, ◌∙◌}
+use Rattle.page_volumes.specs.Group.{let_go}
 use Rattle.page_volumes.specs.Kept.{Book}
-use Rattle.page_volumes.specs.Plain.{of_members, of_places}
+use Rattle.page_volumes.specs.Plain.{of_members}
 use Rattle.page_volumes.proofs.members.Members.forget.Goals as goal
 
 pub returns-clause-act : goal.returns-clause-act

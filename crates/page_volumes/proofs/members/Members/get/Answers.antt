@@ -1,4 +1,4 @@
-use Rattle.std.proofs.Common.{rules, ◌≡◌, ◌+◌, ◌-◌, ◌^◌, Option, length, min, sym, ap, ◌∙◌, subst}
+use Rattle.std.proofs.Common.{rules, ◌≡◌, ◌+◌, ◌-◌, ◌^◌, length, min, subst}
 use Rattle.std.specs.Prelude.{Ok}
 use Rattle.page_volumes.specs.Acts.{Acts}
 use Rattle.page_volumes.specs.Group

@@ -1,4 +1,4 @@
-use Rattle.std.proofs.Common.{◌≡◌, ap, ◌∙◌, sym, subst}
+use Rattle.std.proofs.Common.{sym, subst}
 use Rattle.page_volumes.specs.Acts.{Acts}
 use Rattle.page_volumes.specs.Seen as volume
 use Rattle.page_volumes.specs.Plain.{of_members, of_places}

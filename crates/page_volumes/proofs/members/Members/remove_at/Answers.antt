@@ -1,17 +1,15 @@
-use Rattle.std.proofs.Common.{◌≡◌, ◌+◌, ◌≤◌, ◌<◌, ℕ, Some, None, [], ◌∷◌, ◌++◌, Option, List, length, refl, sym, ap, ◌∙◌, subst}
-use Rattle.std.specs.Prelude.{IfSome, IsSome, IsSomeAnd}
+use Rattle.std.proofs.Common.{◌≡◌, ◌<◌, ℕ, None, Option, refl, sym, ap, ◌∙◌, subst}
+use Rattle.std.specs.Prelude.{IsSome}
 use Rattle.std.specs.Option.{option_map}
 use Rattle.page_disk.specs.declared.change.Change.TheVariants as changes
 use Rattle.page_volumes.specs.declared.writing.Writing.{Writing}
-use Rattle.page_volumes.specs.Acts.{Acts}
 use Rattle.page_volumes.specs.Group
-use Rattle.page_volumes.specs.Group.{changed_at, home_of, seen_by, settled_at, told_more, unfiled, writer_of, Log, Slot}
-use Rattle.page_volumes.specs.Kept.{noted, taken, Book, CanRemove, Kept}
-use Rattle.page_volumes.specs.Seen.{open_page, with_count, Seen}
+use Rattle.page_volumes.specs.Group.{home_of, settled_at, unfiled}
+use Rattle.page_volumes.specs.Kept.{noted, CanRemove, Kept}
 use Rattle.page_volumes.specs.Seen as volume
 use Rattle.page_volumes.specs.Plain.{log_of, of_members, of_places, open_of}
 use Rattle.page_volumes.proofs.Acted.{acts_failed, acts_good, acts_length}
-use Rattle.page_volumes.proofs.Logs.{noted_told, sealed_told, taken_told, within_same}
+use Rattle.page_volumes.proofs.Logs.{noted_told}
 use Rattle.page_volumes.proofs.Rooms.{room_less}
 use Rattle.page_volumes.proofs.Written.{is_within}
 use Rattle.page_volumes.specs.Seen.{HasFile}

@@ -1,20 +1,17 @@
-use Rattle.std.proofs.Common.{◌≡◌, ◌+◌, ◌≤◌, ◌<◌, ℕ, true, Some, None, [], ◌∷◌, ◌++◌, Option, List, length, refl, sym, ap, ◌∙◌, subst}
-use Rattle.std.specs.Prelude.{IfSome, IsSome, IsSomeAnd}
+use Rattle.std.proofs.Common.{◌≡◌, ◌+◌, Some, None, [], ◌∷◌, ◌++◌, Option, sym, ap, ◌∙◌, subst}
+use Rattle.std.specs.Prelude.{IsSomeAnd}
 use Rattle.std.specs.Option.{option_map}
-use Rattle.blob_source.specs.Faults.{Rose}
 use Rattle.page_disk.specs.Changes.{OpenWrite}
-use Rattle.page_volumes.specs.declared.writing.Writing.{Writing}
-use Rattle.page_volumes.specs.Acts.{Acts, CanRemoveAt, FailsAt}
+use Rattle.page_volumes.specs.Acts.{Acts, CanRemoveAt}
 use Rattle.page_volumes.specs.Group
-use Rattle.page_volumes.specs.Group.{changed_at, count_at, object_at, seen_by, takes_writes, writer_of, Log, Slot}
-use Rattle.page_volumes.specs.Kept.{sealed, taken, Book, Kept}
-use Rattle.page_volumes.specs.Seen.{open_page, with_count, Fails, Seen}
+use Rattle.page_volumes.specs.Group.{takes_writes, writer_of}
+use Rattle.page_volumes.specs.Kept.{Book, Kept}
+use Rattle.page_volumes.specs.Seen.{open_page, with_count, Fails}
 use Rattle.page_volumes.specs.Seen as volume
 use Rattle.page_volumes.specs.Plain.{log_of, of_members, of_places, open_of}
 use Rattle.page_volumes.proofs.Acted.{acts_failed, acts_good, acts_more, writes_seen}
-use Rattle.page_volumes.proofs.Logs.{sealed_told, taken_told}
+use Rattle.page_volumes.proofs.Logs.{sealed_told}
 use Rattle.page_volumes.proofs.Tearing.{failed_removable}
-use Rattle.page_volumes.specs.declared.filed.Filed.{Filed}
 use Rattle.page_volumes.proofs.members.Members.seal.Goals as goal
 
 pub tear-requires-clause-writes : goal.tear-requires-clause-writes

@@ -1,8 +1,8 @@
-use Rattle.std.proofs.Common.{◌≡◌, ℕ, Some, None, Option, refl, sym, ap, ◌∙◌, subst}
+use Rattle.std.proofs.Common.{ℕ, Option, refl, sym, ap, subst}
 use Rattle.std.specs.Prelude.{IsSome}
 use Rattle.page_disk.specs.declared.change.Change.TheVariants.{Remove}
 use Rattle.page_volumes.specs.Group.{home_of}
-use Rattle.page_volumes.specs.Kept.{noted, Book, CanRemove, Kept}
+use Rattle.page_volumes.specs.Kept.{Book, CanRemove, Kept}
 use Rattle.page_volumes.proofs.Rooms.{room_less}
 use Rattle.page_volumes.proofs.members.Members.strike.Goals as goal
 

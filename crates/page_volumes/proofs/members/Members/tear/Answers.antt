@@ -3,7 +3,7 @@ use Rattle.std.specs.Option.{option_map}
 use Rattle.page_disk.specs.declared.change.Change.TheVariants.{Torn}
 use Rattle.page_volumes.specs.Acts.{SweepsAt}
 use Rattle.page_volumes.specs.Group
-use Rattle.page_volumes.specs.Group.{told_more, writer_of, writer_retired}
+use Rattle.page_volumes.specs.Group.{told_more, writer_retired}
 use Rattle.page_volumes.specs.Kept.{Book, Kept}
 use Rattle.page_volumes.specs.Plain.{log_of, of_members, of_places}
 use Rattle.page_volumes.proofs.Acted.{sweeps_writes, swept_by}

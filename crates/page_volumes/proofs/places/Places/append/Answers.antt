@@ -1,6 +1,6 @@
-use Rattle.std.proofs.Common.{◌≡◌, ◌+◌, ◌≤◌, None, length}
+use Rattle.std.proofs.Common.{◌+◌, ◌≤◌, length}
 use Rattle.std.specs.Prelude.{IsSomeAnd}
-use Rattle.page_volumes.specs.Seen.{Appends, Begins, Gets, HasBytes, HasFile, HasNone, Removes, Seals}
+use Rattle.page_volumes.specs.Seen.{Appends}
 use Rattle.page_volumes.proofs.Written
 use Rattle.page_volumes.proofs.places.Places.append.Goals as goal
 

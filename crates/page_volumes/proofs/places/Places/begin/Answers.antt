@@ -1,6 +1,5 @@
-use Rattle.std.proofs.Common.{◌≡◌, ◌+◌, ◌≤◌, None, length}
-use Rattle.std.specs.Prelude.{IsSomeAnd}
-use Rattle.page_volumes.specs.Seen.{Appends, Begins, Gets, HasBytes, HasFile, HasNone, Removes, Seals}
+use Rattle.std.proofs.Common.{◌≡◌, None}
+use Rattle.page_volumes.specs.Seen.{Begins, HasNone}
 use Rattle.page_volumes.proofs.Written
 use Rattle.page_volumes.proofs.places.Places.begin.Goals as goal
 

@@ -1,6 +1,5 @@
 use Rattle.std.proofs.Common.{◌≡◌, ◌≤◌, not, take}
 use Rattle.std.specs.Prelude.{count_by}
-use Rattle.page_volumes.specs.Plain.{slots_of}
 use Rattle.page_volumes.proofs.places.Places.is_one_of_several.Given as goal
 
 -- how many of the places so far take writes

@@ -1,4 +1,4 @@
-use Rattle.std.proofs.Common.{◌≡◌, ◌<◌, arith, length, map, ap, ◌∙◌, sym, subst}
+use Rattle.std.proofs.Common.{◌≡◌, arith, length, ap, ◌∙◌}
 use Rattle.page_volumes.proofs.Logs.{map_length}
 use Rattle.page_volumes.specs.Group.{retired}
 use Rattle.page_volumes.specs.Plain.{of_places, slot_of}

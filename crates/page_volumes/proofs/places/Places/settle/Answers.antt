@@ -1,5 +1,5 @@
-use Rattle.std.proofs.Common.{◌≡◌, ◌<◌, length, arith}
-use Rattle.page_volumes.specs.Group.{retired, settled}
+use Rattle.std.proofs.Common.{◌<◌, length, arith}
+use Rattle.page_volumes.specs.Group.{settled}
 use Rattle.page_volumes.proofs.Written
 use Rattle.page_volumes.proofs.places.Places.settle.Goals as goal
 

@@ -1,5 +1,4 @@
-use Rattle.std.proofs.Common.{◌≡◌, ◌<◌, true, false, not, ℕ, suc, ◌+◌, get_or, length, rules, arith, subst, Some}
-use Rattle.std.specs.Prelude.{slice_get}
+use Rattle.std.proofs.Common.{◌≡◌, ◌<◌, true, false, ℕ, suc, ◌+◌, get_or, length, rules, arith, subst}
 use Rattle.page_volumes.specs.Plain.{slot_of, slots_of}
 use Rattle.page_volumes.proofs.Written
 use Rattle.page_volumes.proofs.Writers

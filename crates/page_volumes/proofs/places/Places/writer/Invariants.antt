@@ -1,5 +1,3 @@
-use Rattle.std.proofs.Common.{◌≡◌, ◌≤◌, true, drop, length}
-use Rattle.page_volumes.specs.Group.{takes_writes}
 use Rattle.page_volumes.specs.Plain.{slots_of}
 use Rattle.page_volumes.proofs.Writers.{AllRetired}
 use Rattle.page_volumes.proofs.places.Places.writer.Given as goal
